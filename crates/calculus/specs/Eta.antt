@@ -1,0 +1,105 @@
+-- Eta: one contraction, the sequence in which places are taken, and when it is finished.
+use Prim.Native.Nat.{ℕ, zero, suc, pred, compare}
+use mathlib.Core.Bool.{Bool, true, false, not, _||_, cond}
+use mathlib.Core.Option.{Option, none, some}
+use lib.Dec.{eqb, ltb}
+use Rattle.calculus.specs.Term.{Term, var, lam, app, nodes}
+use Rattle.calculus.specs.Substitution.{compared}
+use Rattle.calculus.specs.Runs.{Run, finished, unfinished}
+
+-- the binder or index 0 is in a term that lies under d abstractions below the binder
+unfoldable pub blocked : ℕ → Term → Bool
+blocked d (var i) = eqb i 0 || eqb i (suc d)
+blocked d (lam b) = blocked (suc d) b
+blocked d (app l r) = blocked d l || blocked d r
+
+-- the indices that are free there lowered by 1
+unfoldable pub lower : ℕ → Term → Term
+lower d (var i) = compared (compare i (suc d)) (var i) (var i) (var (pred i))
+lower d (lam b) = lam (lower (suc d) b)
+lower d (app l r) = app (lower d l) (lower d r)
+
+-- whether a term is the variable 1
+abbrev pub is-one : Term → Bool
+is-one (var i) = eqb i 1
+is-one (lam b) = false
+is-one (app l r) = false
+
+-- M 1 under a binder, where M has neither the binder nor index 0 in it: M with its free indices lowered
+abbrev pub eta-body : Term → Option Term
+eta-body (var i) = none
+eta-body (lam b) = none
+eta-body (app m a) = cond (not (is-one a) || blocked 0 m) none (some (lower 0 m))
+
+-- \(M 1) contracted, if it may be
+abbrev pub eta-step : Term → Option Term
+eta-step (var i) = none
+eta-step (lam b) = eta-body b
+eta-step (app l r) = none
+
+-- some place is left in a term
+abbrev pub is-some : Option Term → Bool
+is-some none = false
+is-some (some t) = true
+
+unfoldable pub has-place : Term → Bool
+unfolding blocked lower
+has-place (var i) = false
+has-place (lam b) = is-some (eta-step (lam b)) || has-place b
+has-place (app l r) = has-place l || has-place r
+
+-- a term after so many steps
+pub data Counted : Type 0 where
+  after : (steps : ℕ) → Term → Counted
+
+-- a step may follow so many: limit 0 is none
+abbrev pub may-follow : (limit steps : ℕ) → Bool
+may-follow limit steps = eqb limit 0 || ltb steps limit
+
+-- the step at a node, if one may follow
+abbrev pub step-if : Bool → Term → Option Term
+step-if true t = eta-step t
+step-if false t = none
+
+abbrev pub stay-or : Counted → (Term → Counted) → Option Term → Counted
+stay-or here go-on none = here
+stay-or here go-on (some u) = go-on u
+
+-- AT A NODE CONTRACT WHILE POSSIBLE; each step takes three nodes, so as many tries as nodes are enough
+unfoldable pub while-possible : (more : ℕ → Bool) (tries : ℕ) → ℕ → Term → Counted
+unfolding blocked lower
+while-possible more zero n t = after n t
+while-possible more (suc tries) n t = stay-or (after n t) (while-possible more tries (suc n)) (step-if (more n) t)
+
+abbrev pub as-body : (ℕ → Term → Counted) → Counted → Counted
+as-body again (after n b) = again n (lam b)
+
+abbrev pub as-right : Term → Counted → Counted
+as-right l (after n r) = after n (app l r)
+
+abbrev pub as-left : (ℕ → Term → Counted) → Term → Counted → Counted
+as-left go r (after n l) = as-right l (go n r)
+
+-- THEN DO THE PARTS, LEFT FIRST; THEN, AT AN ABSTRACTION, CONTRACT WHILE POSSIBLE AGAIN
+abbrev pub do-parts : (again go : ℕ → Term → Counted) → ℕ → Term → Counted
+do-parts again go n (var i) = after n (var i)
+do-parts again go n (lam b) = as-body again (go n b)
+do-parts again go n (app l r) = as-left go r (go n l)
+
+abbrev pub and-parts : (again go : ℕ → Term → Counted) → Counted → Counted
+and-parts again go (after n t) = do-parts again go n t
+
+unfoldable pub eta-from : (more : ℕ → Bool) (tries : ℕ) → ℕ → Term → Counted
+unfolding while-possible
+eta-from more zero n t = after n t
+eta-from more (suc tries) n t =
+    and-parts (while-possible more (suc tries)) (eta-from more tries) (while-possible more (suc tries) n t)
+
+-- FINISHED exactly if no place remains
+abbrev pub eta-ended : Counted → Run Term
+unfolding has-place
+eta-ended (after n u) = cond (has-place u) (unfinished n u) (finished n u)
+
+unfoldable pub eta : (limit : ℕ) → Term → Run Term
+unfolding eta-from has-place nodes
+eta limit t = eta-ended (eta-from (may-follow limit) (nodes t) 0 t)

@@ -1,0 +1,24 @@
+-- The definitions of document 01: what a reader must believe. Nothing is assumed and nothing is proved here.
+pub mod Numbers
+pub mod Bounds
+pub mod Term
+pub mod Refusal
+pub mod Bytes
+pub mod Queries
+pub mod Judging
+pub mod Substitution
+pub mod Orders
+pub mod Traits
+pub mod Runs
+pub mod Eta
+pub mod Characters
+pub mod Words
+pub mod DeBruijn
+pub mod Classic
+pub mod Walk
+pub mod Grammar
+pub mod Reading
+pub mod Writing
+pub mod Outcomes
+pub mod Program
+pub mod Examples

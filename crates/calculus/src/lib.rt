@@ -1,0 +1,18 @@
+// The bounds of document 01 as constants; all else of this crate is definitions (specs/) and laws about them (proofs/).
+
+// The most nodes that a cap may state, and that a query or a printer takes.
+pub const MOST_NODES: usize = 65536;
+
+// The greatest height of a term, and the most parentheses and binders open at once in a text.
+pub const MOST_HEIGHT: usize = 512;
+
+// The most bytes of a text.
+pub const MOST_TEXT: usize = 2097152;
+
+// The greatest limit of a reduction.
+pub const MOST_STEPS: u64 = 1000000;
+
+// The bytes of coded output, and the numbers of work room, that each node of a cap asks for.
+pub const OUTPUT_PER_NODE: usize = 9;
+
+pub const ROOM_PER_NODE: usize = 8;

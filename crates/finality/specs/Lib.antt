@@ -1,0 +1,5 @@
+-- What the theorems speak of, besides the definitions of the crate calculus.
+pub mod Beta
+pub mod Full
+pub mod Finished
+pub mod Sestoft

@@ -1,0 +1,1 @@
+// Theorems about the definitions of the crate calculus: see proofs/. No code runs.
