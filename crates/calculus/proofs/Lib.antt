@@ -2,4 +2,7 @@
 pub mod Substituting
 pub mod Growth
 pub mod NextStep
+pub mod Coding
+pub mod Running
+pub mod Judged
 mod Examples

@@ -11,6 +11,11 @@ pub data Steps (o : Order) : ℕ → Term → Term → Type 0 where
   stay : {t : Term} → Steps o 0 t t
   go : {n : ℕ} {t u v : Term} → step o t ≡ some u → Steps o n u v → Steps o (suc n) t v
 
+-- n steps, each to a term that a judge accepts
+pub data Accepted (judge : Term → Option Refusal) (o : Order) : ℕ → Term → Term → Type 0 where
+  stay-so : {t : Term} → Accepted judge o 0 t t
+  go-on : {n : ℕ} {t u v : Term} → step o t ≡ some u → judge u ≡ none → Accepted judge o n u v → Accepted judge o (suc n) t v
+
 -- how a run ends, with the steps completed: no step is left; a step is left at the limit; the next term is refused.
 -- What is reached is a term or, in an answer, the length of its bytes.
 pub data Run (A : Type 0) : Type 0 where
@@ -25,8 +30,8 @@ counted (refused-after n e) = refused-after (suc n) e
 
 -- at a term: finished if it has no step
 abbrev pub by-step : Term → (Term → Run Term) → Option Term → Run Term
-by-step t go-on none = finished 0 t
-by-step t go-on (some u) = go-on u
+by-step t more none = finished 0 t
+by-step t more (some u) = more u
 
 -- the next term is refused, or the run goes on
 abbrev pub by-judge : Option Refusal → Run Term → Run Term

@@ -6,3 +6,5 @@ pub mod Confluence
 pub mod Sound
 pub mod Finishing
 pub mod Values
+pub mod Meaning
+pub mod Final

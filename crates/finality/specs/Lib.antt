@@ -3,3 +3,4 @@ pub mod Beta
 pub mod Full
 pub mod Finished
 pub mod Sestoft
+pub mod Meaning

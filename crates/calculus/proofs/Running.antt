@@ -1,0 +1,70 @@
+-- What a run under a limit says of the steps: how it ends, which terms were judged, and that it cannot end otherwise.
+use Prim.Native.Nat.{ℕ, zero, suc, _+_, _≤_, _<_, zero-le, suc-le-suc}
+use mathlib.Core.Path.{_≡_, refl, ap}
+use mathlib.Core.Option.{Option, none, some}
+use native.Mathlib.Omega.{arith}
+use Rattle.calculus.specs.Term.{Term}
+use Rattle.calculus.specs.Refusal.{Refusal}
+use Rattle.calculus.specs.Orders.{Order, step}
+use Rattle.calculus.specs.Runs.{Steps, stay, go, Accepted, stay-so, go-on, Run, finished, unfinished, refused-after}
+use Rattle.calculus.specs.Runs.{counted, by-step, by-judge, run}
+
+pub accepted-steps : {judge : Term → Option Refusal} {o : Order} {n : ℕ} {t u : Term} → Accepted judge o n t u → Steps o n t u
+accepted-steps stay-so = stay
+accepted-steps (go-on e a s) = go e (accepted-steps s)
+
+-- another judge accepts at least as much
+pub accepted-by : {judge judge′ : Term → Option Refusal} {o : Order} {n : ℕ} {t u : Term}
+    → ((v : Term) → judge v ≡ none → judge′ v ≡ none) → Accepted judge o n t u → Accepted judge′ o n t u
+accepted-by f stay-so = stay-so
+accepted-by f (go-on {u = u} e a s) = go-on e (f u a) (accepted-by f s)
+
+-- THE THREE ENDS of a run
+pub data Ends (judge : Term → Option Refusal) (o : Order) (limit : ℕ) (t : Term) : Run Term → Type 0 where
+  ends-finished : {n : ℕ} {u : Term} → n ≤ limit → Accepted judge o n t u → step o u ≡ none → Ends judge o limit t (finished n u)
+  ends-unfinished : {u v : Term} → Accepted judge o limit t u → step o u ≡ some v → Ends judge o limit t (unfinished limit u)
+  ends-refused : {n : ℕ} {u v : Term} {e : Refusal} → n < limit → Accepted judge o n t u → step o u ≡ some v → judge v ≡ some e
+      → Ends judge o limit t (refused-after n e)
+
+module _ (judge : Term → Option Refusal) (o : Order) where
+  ends-counted : {limit : ℕ} {t u : Term} {r : Run Term} → step o t ≡ some u → judge u ≡ none → Ends judge o limit u r
+      → Ends judge o (suc limit) t (counted r)
+  ends-counted e a (ends-finished h s k) = ends-finished (suc-le-suc h) (go-on e a s) k
+  ends-counted e a (ends-unfinished s k) = ends-unfinished (go-on e a s) k
+  ends-counted e a (ends-refused h s k j) = ends-refused (suc-le-suc h) (go-on e a s) k j
+
+  ends-judged : {limit : ℕ} {t u : Term} {r : Run Term} → step o t ≡ some u → Ends judge o limit u r → (x : Option Refusal) → judge u ≡ x
+      → Ends judge o (suc limit) t (by-judge x r)
+  ends-judged e s none a = ends-counted e a s
+  ends-judged e s (some x) a = ends-refused (suc-le-suc zero-le) stay-so e a
+
+  ends-by-step : {limit : ℕ} {t : Term} (more : Term → Run Term) → ((u : Term) → step o t ≡ some u → Ends judge o limit t (more u))
+      → (x : Option Term) → step o t ≡ x → Ends judge o limit t (by-step t more x)
+  ends-by-step more h none e = ends-finished zero-le stay-so e
+  ends-by-step more h (some u) e = h u e
+
+  pub run-ends : (limit : ℕ) (t : Term) → Ends judge o limit t (run judge o limit t)
+  unfolding run
+  run-ends zero t = ends-by-step _ (λ u e. ends-unfinished stay-so e) (step o t) refl
+  run-ends (suc limit) t = ends-by-step _ (λ u e. ends-judged e (run-ends limit u) (judge u) refl) (step o t) refl
+
+  -- and what the steps say, a run answers
+  pub run-finishes : {n : ℕ} {t u : Term} (limit : ℕ) → n ≤ limit → Accepted judge o n t u → step o u ≡ none
+      → run judge o limit t ≡ finished n u
+  unfolding run
+  run-finishes zero h stay-so k = rw k
+  run-finishes (suc limit) h stay-so k = rw k
+  run-finishes zero h (go-on e a s) k = absurd (omega arith)
+  run-finishes (suc limit) h (go-on e a s) k = rw (e, a) (ap counted (run-finishes limit (omega arith) s k))
+
+  pub run-leaves : {t u v : Term} (limit : ℕ) → Accepted judge o limit t u → step o u ≡ some v → run judge o limit t ≡ unfinished limit u
+  unfolding run
+  run-leaves zero stay-so k = rw k
+  run-leaves (suc limit) (go-on e a s) k = rw (e, a) (ap counted (run-leaves limit s k))
+
+  pub run-refuses : {n : ℕ} {t u v : Term} {x : Refusal} (limit : ℕ) → n < limit → Accepted judge o n t u → step o u ≡ some v → judge v ≡ some x
+      → run judge o limit t ≡ refused-after n x
+  unfolding run
+  run-refuses zero h s k j = absurd (omega arith)
+  run-refuses (suc limit) h stay-so k j = rw (k, j)
+  run-refuses (suc limit) h (go-on e a s) k j = rw (e, a) (ap counted (run-refuses limit (omega arith) s k j))
