@@ -1,14 +1,16 @@
 -- Terms and their bytes give each other: decoding the bytes of t gives t, and only they decode to t.
-use Prim.Native.Nat.{ℕ, zero, suc, _+_, _*_, _/_, _%_, _≤_, _<_, max}
+use Prim.Native.Nat.{ℕ, zero, suc, _+_, _*_, _/_, _%_, _^_, _≤_, _<_}
 use mathlib.Core.Path.{_≡_, refl, ap, sym, _∙_}
 use mathlib.Core.Bool.{Bool, true, false}
 use mathlib.Core.List.{List, [], _∷_, _++_, append-assoc, append-nil}
 use native.Mathlib.Omega.{arith}
+use native.Mathlib.Nat.{pow-suc}
 use borrow.Author.Tests.{le-leb, leb-true}
 use lib.Dec.{leb}
-use lib.ListN.{length, getD, take, drop, length-append, take-append-drop}
-use lib.Seq.{getD-append-add, getD-take, length-take-le}
-use Rattle.calculus.specs.Term.{Term, var, lam, app, nodes, height}
+use lib.ListN.{length, getD, take, drop, length-append, take-append-drop, List·getD-append}
+use lib.Seq.{getD-append-add, length-take-le}
+use Rattle.calculus.specs.Term.{Term, var, lam, app, height, greatest-index}
+use Rattle.calculus.specs.Bounds.{greatest-number}
 use Rattle.calculus.specs.Numbers.{number}
 use Rattle.calculus.specs.Refusal.{Answer, given, refused}
 use Rattle.calculus.specs.Bytes.{digits, encode, Found, found, missing, variable-if, under, beside, two-parts}
@@ -119,3 +121,24 @@ whole-reads s breaks-off w = let never : _≡_ {A = ℕ} 0 1 = cc in absurd (ome
 pub encode-decode : (s : List ℕ) {t : Term} → AllBytes s → decode s ≡ given t → s ≡ encode t
 unfolding decode
 encode-decode s h e = whole-reads s (reads-term (length s) s h) e
+
+-- NO INDEX IN CODED INPUT is above 2^64 - 1
+digits-small : (k n : ℕ) → AllBytes (digits k n) → n < 256 ^ suc k
+unfolding digits
+digits-small zero n h = h 0
+digits-small (suc k) n h = omega (arith, digits-small k (n / 256) (λ i. h (suc i)), pow-suc 256 (suc k))
+
+bytes-before : (xs ys : List ℕ) → AllBytes (xs ++ ys) → AllBytes xs
+bytes-before [] ys h i = omega arith
+bytes-before (x ∷ xs) ys h zero = h 0
+bytes-before (x ∷ xs) ys h (suc i) = bytes-before xs ys (λ j. h (suc j)) i
+
+indices-small : (t : Term) → AllBytes (encode t) → greatest-index t ≤ greatest-number
+unfolding encode greatest-index
+indices-small (var i) h = let small : i < 256 ^ 8 = digits-small 7 i (λ j. h (suc j)) in omega arith
+indices-small (lam b) h = indices-small b (λ j. h (suc j))
+indices-small (app l r) h =
+    omega (arith, indices-small l (bytes-before (encode l) (encode r) (λ j. h (suc j))), indices-small r (bytes-after (encode l) (encode r) (λ j. h (suc j))))
+
+pub decoded-small : (s : List ℕ) {t : Term} → AllBytes s → decode s ≡ given t → greatest-index t ≤ greatest-number
+decoded-small s {t} h e = indices-small t (rw (encode-decode s h e) at h)

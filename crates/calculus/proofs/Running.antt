@@ -6,7 +6,8 @@ use native.Mathlib.Omega.{arith}
 use Rattle.calculus.specs.Term.{Term}
 use Rattle.calculus.specs.Refusal.{Refusal}
 use Rattle.calculus.specs.Orders.{Order, step}
-use Rattle.calculus.specs.Runs.{Steps, stay, go, Accepted, stay-so, go-on, Run, finished, unfinished, refused-after}
+use Rattle.calculus.specs.Runs.{Run, finished, unfinished, refused-after}
+use Rattle.calculus.specs.Ends.{Steps, stay, go, Accepted, stay-so, go-on, Ends, ends-finished, ends-unfinished, ends-refused}
 use Rattle.calculus.specs.Runs.{counted, by-step, by-judge, run}
 
 pub accepted-steps : {judge : Term → Option Refusal} {o : Order} {n : ℕ} {t u : Term} → Accepted judge o n t u → Steps o n t u
@@ -18,13 +19,6 @@ pub accepted-by : {judge judge′ : Term → Option Refusal} {o : Order} {n : �
     → ((v : Term) → judge v ≡ none → judge′ v ≡ none) → Accepted judge o n t u → Accepted judge′ o n t u
 accepted-by f stay-so = stay-so
 accepted-by f (go-on {u = u} e a s) = go-on e (f u a) (accepted-by f s)
-
--- THE THREE ENDS of a run
-pub data Ends (judge : Term → Option Refusal) (o : Order) (limit : ℕ) (t : Term) : Run Term → Type 0 where
-  ends-finished : {n : ℕ} {u : Term} → n ≤ limit → Accepted judge o n t u → step o u ≡ none → Ends judge o limit t (finished n u)
-  ends-unfinished : {u v : Term} → Accepted judge o limit t u → step o u ≡ some v → Ends judge o limit t (unfinished limit u)
-  ends-refused : {n : ℕ} {u v : Term} {e : Refusal} → n < limit → Accepted judge o n t u → step o u ≡ some v → judge v ≡ some e
-      → Ends judge o limit t (refused-after n e)
 
 module _ (judge : Term → Option Refusal) (o : Order) where
   ends-counted : {limit : ℕ} {t u : Term} {r : Run Term} → step o t ≡ some u → judge u ≡ none → Ends judge o limit u r
@@ -49,7 +43,7 @@ module _ (judge : Term → Option Refusal) (o : Order) where
   run-ends (suc limit) t = ends-by-step _ (λ u e. ends-judged e (run-ends limit u) (judge u) refl) (step o t) refl
 
   -- and what the steps say, a run answers
-  pub run-finishes : {n : ℕ} {t u : Term} (limit : ℕ) → n ≤ limit → Accepted judge o n t u → step o u ≡ none
+  run-finishes : {n : ℕ} {t u : Term} (limit : ℕ) → n ≤ limit → Accepted judge o n t u → step o u ≡ none
       → run judge o limit t ≡ finished n u
   unfolding run
   run-finishes zero h stay-so k = rw k
@@ -57,14 +51,19 @@ module _ (judge : Term → Option Refusal) (o : Order) where
   run-finishes zero h (go-on e a s) k = absurd (omega arith)
   run-finishes (suc limit) h (go-on e a s) k = rw (e, a) (ap counted (run-finishes limit (omega arith) s k))
 
-  pub run-leaves : {t u v : Term} (limit : ℕ) → Accepted judge o limit t u → step o u ≡ some v → run judge o limit t ≡ unfinished limit u
+  run-leaves : {t u v : Term} (limit : ℕ) → Accepted judge o limit t u → step o u ≡ some v → run judge o limit t ≡ unfinished limit u
   unfolding run
   run-leaves zero stay-so k = rw k
   run-leaves (suc limit) (go-on e a s) k = rw (e, a) (ap counted (run-leaves limit s k))
 
-  pub run-refuses : {n : ℕ} {t u v : Term} {x : Refusal} (limit : ℕ) → n < limit → Accepted judge o n t u → step o u ≡ some v → judge v ≡ some x
+  run-refuses : {n : ℕ} {t u v : Term} {x : Refusal} (limit : ℕ) → n < limit → Accepted judge o n t u → step o u ≡ some v → judge v ≡ some x
       → run judge o limit t ≡ refused-after n x
   unfolding run
   run-refuses zero h s k j = absurd (omega arith)
   run-refuses (suc limit) h stay-so k j = rw (k, j)
   run-refuses (suc limit) h (go-on e a s) k j = rw (e, a) (ap counted (run-refuses limit (omega arith) s k j))
+
+  pub ends-run : {limit : ℕ} {t : Term} {r : Run Term} → Ends judge o limit t r → run judge o limit t ≡ r
+  ends-run {limit} (ends-finished h s k) = run-finishes limit h s k
+  ends-run {limit} (ends-unfinished s k) = run-leaves limit s k
+  ends-run {limit} (ends-refused h s k j) = run-refuses limit h s k j

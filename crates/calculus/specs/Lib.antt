@@ -11,6 +11,7 @@ pub mod Orders
 pub mod Traits
 pub mod Runs
 pub mod Eta
+pub mod Ends
 pub mod Characters
 pub mod Words
 pub mod DeBruijn

@@ -1,20 +1,9 @@
--- Steps one after another, and runs under a limit whose every next term is judged.
+-- Runs under a limit, whose every next term is judged.
 use Prim.Native.Nat.{ℕ, zero, suc}
-use mathlib.Core.Path.{_≡_}
 use mathlib.Core.Option.{Option, none, some}
 use Rattle.calculus.specs.Term.{Term}
 use Rattle.calculus.specs.Refusal.{Refusal}
 use Rattle.calculus.specs.Orders.{Order, step}
-
--- n steps of an order
-pub data Steps (o : Order) : ℕ → Term → Term → Type 0 where
-  stay : {t : Term} → Steps o 0 t t
-  go : {n : ℕ} {t u v : Term} → step o t ≡ some u → Steps o n u v → Steps o (suc n) t v
-
--- n steps, each to a term that a judge accepts
-pub data Accepted (judge : Term → Option Refusal) (o : Order) : ℕ → Term → Term → Type 0 where
-  stay-so : {t : Term} → Accepted judge o 0 t t
-  go-on : {n : ℕ} {t u v : Term} → step o t ≡ some u → judge u ≡ none → Accepted judge o n u v → Accepted judge o (suc n) t v
 
 -- how a run ends, with the steps completed: no step is left; a step is left at the limit; the next term is refused.
 -- What is reached is a term or, in an answer, the length of its bytes.

@@ -12,17 +12,18 @@ use Rattle.calculus.specs.Refusal.{given}
 use Rattle.calculus.specs.Bytes.{encode, decode}
 use Rattle.calculus.specs.Judging.{judge}
 use Rattle.calculus.specs.Orders.{Order, step}
-use Rattle.calculus.specs.Runs.{Steps, stay, go, Accepted, Run, finished}
+use Rattle.calculus.specs.Runs.{finished}
+use Rattle.calculus.specs.Ends.{Steps, stay, go, Accepted, ends-finished}
 use Rattle.calculus.specs.Outcomes.{checked, cap-allowed, limit-allowed, suffice, laid-over, cleared, reduce-of}
 use Rattle.calculus.proofs.Running.{accepted-steps, accepted-by}
 use Rattle.calculus.proofs.Judged.{judge-more, checked-given, checked-more}
 use Rattle.finality.specs.Beta.{Beta, Many, done, next}
 use Rattle.finality.specs.Full.{Full}
 use Rattle.finality.specs.Finished.{Finished}
-use Rattle.finality.specs.Meaning.{Admitted, Reduces, out-of-bounds, room-lacking, input-refused, no-step-left, at-the-limit, next-refused}
+use Rattle.finality.specs.Meaning.{Admitted, run-finished}
 use Rattle.finality.proofs.Sound.{step-is-beta, stuck-normal}
 use Rattle.finality.proofs.Confluence.{normal-unique}
-use Rattle.finality.proofs.Meaning.{reduce-means, means-reduce}
+use Rattle.finality.proofs.Meaning.{Reduces, reduce-means, means-reduce}
 
 -- OVER TERMS: finished runs of one term in full orders end in one term
 pub steps-many : {o : Order} {n : ℕ} {t u : Term} → Steps o n t u → Many Beta t u
@@ -46,13 +47,13 @@ pub record SaysFinished (o : Order) (limit cap : ℕ) (s out : List ℕ) (n size
   pub bytes-left : left ≡ laid-over (encode reached) out
 
 module _ (o : Order) (limit cap : ℕ) (s out room : List ℕ) where
-  says : {n size : ℕ} {left z : List ℕ} → Reduces o limit cap s out room (finished n size) left z → SaysFinished o limit cap s out n size left
-  says (no-step-left {t = t} u a c h p k) =
-      record { from = t; reached = u; input = c; few = h; steps = p; stuck = k; length-told = refl; bytes-left = refl }
+  says : {n size : ℕ} {left z : List ℕ} → Reduces limit cap s out room o (finished n size) left z → SaysFinished o limit cap s out n size left
+  says (run-finished {t = t} u a (ends-finished h p k)) =
+      record { from = t; reached = u; input = a .input; few = h; steps = p; stuck = k; length-told = refl; bytes-left = refl }
 
   pub says-finished : {n size : ℕ} → reduce-of o limit cap s out room .0 ≡ finished n size
       → SaysFinished o limit cap s out n size (reduce-of o limit cap s out room .1)
-  says-finished e = says (rw e at (reduce-means o limit cap s out room))
+  says-finished e = says (rw e at (reduce-means limit cap s out room o))
 
 -- the bytes that a finished run tells of
 told-bytes : {o : Order} {limit cap : ℕ} {s out : List ℕ} {n size : ℕ} {left : List ℕ} (f : SaysFinished o limit cap s out n size left)
@@ -78,14 +79,15 @@ never-different {o} {p} full full′ limit limit′ cap cap′ s out out′ room
 
 -- SECOND HALF: a finished run repeated with no less room and limit is the same, in answer and bytes
 pub repeated : (o : Order) (limit limit′ cap cap′ : ℕ) (s out out′ room room′ : List ℕ) {n size : ℕ} → limit ≤ limit′ → cap ≤ cap′
-    → Admitted limit′ cap′ out′ room′ → reduce-of o limit cap s out room .0 ≡ finished n size
+    → cap-allowed cap′ && limit-allowed limit′ ≡ true → suffice cap′ out′ room′ ≡ true → reduce-of o limit cap s out room .0 ≡ finished n size
     → reduce-of o limit′ cap′ s out′ room′
     ≡ (finished n size, laid-over (take size (reduce-of o limit cap s out room .1)) out′, cleared cap′ room′)
-repeated o limit limit′ cap cap′ s out out′ room room′ {n} {size} h k a e = again (says-finished o limit cap s out room e)
+repeated o limit limit′ cap cap′ s out out′ room room′ {n} {size} h k b q e = again (says-finished o limit cap s out room e)
   where
     again : {left : List ℕ} → SaysFinished o limit cap s out n size left
         → reduce-of o limit′ cap′ s out′ room′ ≡ (finished n size, laid-over (take size left) out′, cleared cap′ room′)
     again f =
-        means-reduce o limit′ cap′ s out′ room′
-        (no-step-left (f .reached) a (checked-more s k (f .input)) (omega (arith, f .few)) (accepted-by (judge-more k) (f .steps)) (f .stuck))
+        means-reduce limit′ cap′ s out′ room′ o
+        (run-finished (f .reached) (record { in-bounds = b; enough = q; input = checked-more s k (f .input) })
+        (ends-finished (omega (arith, f .few)) (accepted-by (judge-more k) (f .steps)) (f .stuck)))
         ∙ ap₂ (λ (l : ℕ) (b : List ℕ). (finished n l, laid-over b out′, cleared cap′ room′)) (sym (f .length-told)) (sym (told-bytes f))

@@ -8,3 +8,9 @@ pub mod Finishing
 pub mod Values
 pub mod Meaning
 pub mod Final
+pub mod EtaFinal
+pub mod Tokens
+pub mod Walked
+pub mod Lexed
+pub mod RoundTrip
+pub mod ReadBack

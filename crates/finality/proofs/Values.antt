@@ -7,7 +7,7 @@ use mathlib.Core.Option.{Option, none, some}
 use Rattle.calculus.specs.Term.{Term, var, lam, app}
 use Rattle.finality.specs.Beta.{Many, done, next}
 use Rattle.calculus.specs.Orders.{Order, CBN, HSP, CBV, APP, NOR, HNO, HAP, enters, step}
-use Rattle.calculus.specs.Runs.{Steps, stay, go}
+use Rattle.calculus.specs.Ends.{Steps, stay, go}
 use Rattle.calculus.specs.Traits.{spine, eager, hybrid, late, NotLam}
 use Rattle.calculus.proofs.NextStep.{Unless, Stuck, Goes}
 use Rattle.calculus.proofs.NextStep.{Next, at-spine, at-early, at-here, at-left, at-late, nowhere, step-next}

@@ -4,7 +4,7 @@ use mathlib.Core.Path.{_≡_}
 use mathlib.Core.Option.{none}
 use Rattle.calculus.specs.Term.{Term}
 use Rattle.calculus.specs.Orders.{Order, step}
-use Rattle.calculus.specs.Runs.{Steps}
+use Rattle.calculus.specs.Ends.{Steps}
 
 pub record Finished (o : Order) (n : ℕ) (t u : Term) : Type 0 where
   pub reached : Steps o n t u

@@ -4,3 +4,4 @@ pub mod Full
 pub mod Finished
 pub mod Sestoft
 pub mod Meaning
+pub mod Readable

@@ -1,42 +1,35 @@
--- WHAT AN OUTCOME OF REDUCE MEANS: each case in document 01's words, by steps and not by a function that runs them.
-use Prim.Native.Nat.{ℕ, _≤_, _<_}
+-- WHAT AN OUTCOME OF REDUCE OR ETA MEANS: how the end of a run on terms becomes an answer on bytes, with the buffers.
+use Prim.Native.Nat.{ℕ}
 use mathlib.Core.Path.{_≡_}
-use mathlib.Core.Bool.{true, false, _&&_}
+use mathlib.Core.Bool.{Bool, true, false}
 use mathlib.Core.List.{List}
-use mathlib.Core.Option.{none, some}
 use lib.ListN.{length}
 use Rattle.calculus.specs.Term.{Term}
 use Rattle.calculus.specs.Refusal.{Refusal, given, refused, outside-bounds, too-little-room}
 use Rattle.calculus.specs.Bytes.{encode}
-use Rattle.calculus.specs.Judging.{judge}
-use Rattle.calculus.specs.Orders.{Order, step}
-use Rattle.calculus.specs.Runs.{Accepted, Run, finished, unfinished, refused-after}
-use Rattle.calculus.specs.Outcomes.{checked, cap-allowed, limit-allowed, suffice, laid-over, cleared}
+use Rattle.calculus.specs.Runs.{Run, finished, unfinished, refused-after}
+use Rattle.calculus.specs.Outcomes.{checked, suffice, laid-over, cleared}
 
--- 1 and 2 do not hold
-pub record Admitted (limit cap : ℕ) (out room : List ℕ) : Type 0 where
-  pub allowed : cap-allowed cap && limit-allowed limit ≡ true
+-- neither 1 nor 2 holds, and the input is the bytes of t, within the bounds
+pub record Admitted (allowed : Bool) (cap : ℕ) (s out room : List ℕ) (t : Term) : Type 0 where
+  pub in-bounds : allowed ≡ true
   pub enough : suffice cap out room ≡ true
+  pub input : checked cap s ≡ given t
 
--- an answer, and the output and the work room after it
-pub data Reduces (o : Order) (limit cap : ℕ) (s out room : List ℕ) : Run ℕ → List ℕ → List ℕ → Type 0 where
+-- the answer, the output and the work room, by how a run from t may end
+pub data Answers (allowed : Bool) (cap : ℕ) (s out room : List ℕ) (Ends : Term → Run Term → Type 0) : Run ℕ → List ℕ → List ℕ → Type 0 where
   -- 1, then 2: nothing changes
-  out-of-bounds : cap-allowed cap && limit-allowed limit ≡ false
-      → Reduces o limit cap s out room (refused-after 0 outside-bounds) out room
-  room-lacking : cap-allowed cap && limit-allowed limit ≡ true → suffice cap out room ≡ false
-      → Reduces o limit cap s out room (refused-after 0 too-little-room) out room
+  out-of-bounds : allowed ≡ false → Answers allowed cap s out room Ends (refused-after 0 outside-bounds) out room
+  room-lacking : allowed ≡ true → suffice cap out room ≡ false
+      → Answers allowed cap s out room Ends (refused-after 0 too-little-room) out room
   -- the input's own 10, 7 or 9
-  input-refused : {e : Refusal} → Admitted limit cap out room → checked cap s ≡ refused e
-      → Reduces o limit cap s out room (refused-after 0 e) out (cleared cap room)
-  -- Finished: so many steps lead to a term that has none, also when their count equals the limit
-  no-step-left : {t : Term} (u : Term) {n : ℕ} → Admitted limit cap out room → checked cap s ≡ given t
-      → n ≤ limit → Accepted (judge cap) o n t u → step o u ≡ none
-      → Reduces o limit cap s out room (finished n (length (encode u))) (laid-over (encode u) out) (cleared cap room)
-  -- Unfinished: the count equals the limit and a step is left
-  at-the-limit : {t : Term} (u : Term) {v : Term} → Admitted limit cap out room → checked cap s ≡ given t
-      → Accepted (judge cap) o limit t u → step o u ≡ some v
-      → Reduces o limit cap s out room (unfinished limit (length (encode u))) (laid-over (encode u) out) (cleared cap room)
-  -- short of the limit, the next term is refused by 12, 7 or 9
-  next-refused : {t u v : Term} {n : ℕ} {e : Refusal} → Admitted limit cap out room → checked cap s ≡ given t
-      → n < limit → Accepted (judge cap) o n t u → step o u ≡ some v → judge cap v ≡ some e
-      → Reduces o limit cap s out room (refused-after n e) out (cleared cap room)
+  input-refused : {e : Refusal} → allowed ≡ true → suffice cap out room ≡ true → checked cap s ≡ refused e
+      → Answers allowed cap s out room Ends (refused-after 0 e) out (cleared cap room)
+  -- a term that is reached stands first in the output
+  run-finished : {t : Term} {n : ℕ} (u : Term) → Admitted allowed cap s out room t → Ends t (finished n u)
+      → Answers allowed cap s out room Ends (finished n (length (encode u))) (laid-over (encode u) out) (cleared cap room)
+  run-unfinished : {t : Term} {n : ℕ} (u : Term) → Admitted allowed cap s out room t → Ends t (unfinished n u)
+      → Answers allowed cap s out room Ends (unfinished n (length (encode u))) (laid-over (encode u) out) (cleared cap room)
+  -- a refused run leaves the output as it was
+  run-refused : {t : Term} {n : ℕ} {e : Refusal} → Admitted allowed cap s out room t → Ends t (refused-after n e)
+      → Answers allowed cap s out room Ends (refused-after n e) out (cleared cap room)
