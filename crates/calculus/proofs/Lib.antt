@@ -4,6 +4,7 @@ pub mod Measures
 pub mod Substituting
 pub mod Growth
 pub mod NextStep
+pub mod Equality
 pub mod Coding
 pub mod Running
 pub mod Judged
@@ -16,3 +17,4 @@ pub mod Sequences
 pub mod Shown
 pub mod Names
 mod Examples
+mod Readings

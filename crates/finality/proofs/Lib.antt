@@ -14,3 +14,5 @@ pub mod Walked
 pub mod Lexed
 pub mod RoundTrip
 pub mod ReadBack
+pub mod Unique
+pub mod Growth

@@ -8,6 +8,13 @@ pub data Beta : Term → Term → Type 0 where
   in-left : {l m r : Term} → Beta l m → Beta (app l r) (app m r)
   in-right : {l r s : Term} → Beta r s → Beta (app l r) (app l s)
 
+-- the same, told with the redex (\B) A that it contracts
+pub data Contracts (b a : Term) : Term → Term → Type 0 where
+  right-here : Contracts b a (app (lam b) a) (contract b a)
+  below : {c d : Term} → Contracts b a c d → Contracts b a (lam c) (lam d)
+  on-the-left : {l m r : Term} → Contracts b a l m → Contracts b a (app l r) (app m r)
+  on-the-right : {l r s : Term} → Contracts b a r s → Contracts b a (app l r) (app l s)
+
 -- no redex is left
 abbrev pub Normal : Term → Type 0
 Normal t = (u : Term) → Beta t u → ⊥

@@ -5,3 +5,4 @@ pub mod Finished
 pub mod Sestoft
 pub mod Meaning
 pub mod Readable
+pub mod Statements
