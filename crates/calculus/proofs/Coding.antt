@@ -46,7 +46,8 @@ bytes-take (suc k) (b ∷ bs) h zero = h 0
 bytes-take (suc k) (b ∷ bs) h (suc i) = bytes-take k bs (λ j. h (suc j)) i
 
 -- THE BYTES OF A TERM are read as that term, wherever they stand
-pub term-first : (t : Term) (deep : ℕ) → height t ≤ deep → (rest : List ℕ) → term-in deep (encode t ++ rest) ≡ found t rest
+pub term-first : (t : Term) (deep : ℕ) → height t ≤ deep → (rest : List ℕ)
+    → term-in deep (encode t ++ rest) ≡ found t rest
 unfolding term-in encode digits height number
 term-first (var i) zero h rest = absurd (omega arith)
 term-first (lam b) zero h rest = absurd (omega arith)
@@ -88,18 +89,22 @@ unfolding encode
 reads-under (reads e) = reads (ap (λ x. 2 ∷ x) e)
 reads-under breaks-off = breaks-off
 
-reads-beside : (l : Term) {bs rest : List ℕ} {f : Found} → bs ≡ encode l ++ rest → Reads rest f → Reads (3 ∷ bs) (beside l f)
+reads-beside : (l : Term) {bs rest : List ℕ} {f : Found} → bs ≡ encode l ++ rest → Reads rest f
+    → Reads (3 ∷ bs) (beside l f)
 unfolding encode
 reads-beside l e (reads {t = r} {rest = end} f) =
     reads (ap (λ x. 3 ∷ x) (e ∙ ap (λ x. encode l ++ x) f ∙ sym (append-assoc (encode l) (encode r) end)))
 reads-beside l e breaks-off = breaks-off
 
-reads-two : {bs : List ℕ} {f : Found} (next : List ℕ → Found) → AllBytes bs → ((s : List ℕ) → AllBytes s → Reads s (next s)) → Reads bs f
+reads-two : {bs : List ℕ} {f : Found} (next : List ℕ → Found) → AllBytes bs
+    → ((s : List ℕ) → AllBytes s → Reads s (next s)) → Reads bs f
     → Reads (3 ∷ bs) (two-parts f next)
-reads-two next h ih (reads {t = l} {rest = rest} e) = reads-beside l e (ih rest (bytes-after (encode l) rest (rw e at h)))
+reads-two next h ih (reads {t = l} {rest = rest} e) =
+    reads-beside l e (ih rest (bytes-after (encode l) rest (rw e at h)))
 reads-two next h ih breaks-off = breaks-off
 
-reads-kind : (next : List ℕ → Found) → ((s : List ℕ) → AllBytes s → Reads s (next s)) → (k : ℕ) (bs : List ℕ) → AllBytes bs → Reads (k ∷ bs) (of-kind next k bs)
+reads-kind : (next : List ℕ → Found) → ((s : List ℕ) → AllBytes s → Reads s (next s)) → (k : ℕ) (bs : List ℕ)
+    → AllBytes bs → Reads (k ∷ bs) (of-kind next k bs)
 unfolding of-kind
 reads-kind next ih zero bs h = breaks-off
 reads-kind next ih (suc zero) bs h = reads-variable bs h (leb 8 (length bs)) refl

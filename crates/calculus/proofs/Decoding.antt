@@ -1,4 +1,5 @@
--- Reading a term moves forward, so that as many levels as bytes are enough, and the offset of refusal 10 lies in the input.
+-- Reading a term moves forward, so that as many levels as bytes are enough, and the offset of refusal 10 lies in the
+-- input.
 use Prim.Native.Nat.{ℕ, zero, suc, _-_, _≤_, _<_}
 use mathlib.Core.Path.{_≡_, refl, ap, _∙_}
 use mathlib.Core.Bool.{Bool, true, false}
@@ -8,7 +9,8 @@ use lib.Dec.{leb}
 use lib.ListN.{length, drop, length-drop}
 use Rattle.calculus.specs.Term.{Term}
 use Rattle.calculus.specs.Refusal.{Answer, given, refused, not-a-term}
-use Rattle.calculus.specs.Bytes.{Found, found, missing, variable-if, under, beside, two-parts, of-kind, term-in, whole, decode}
+use Rattle.calculus.specs.Bytes.{Found, found, missing, variable-if, under, beside, two-parts, of-kind, term-in}
+use Rattle.calculus.specs.Bytes.{whole, decode}
 
 -- what remains is shorter than what was read, or is where the reading broke off
 pub data Forward (s : List ℕ) : Found → Type 0 where
@@ -23,16 +25,19 @@ forward-under : {k : ℕ} {bs : List ℕ} {f : Found} → Forward bs f → Forwa
 forward-under (past rest h) = past rest (omega arith)
 forward-under (stops at h) = stops at (omega arith)
 
-forward-beside : {s rest : List ℕ} (l : Term) {f : Found} → length rest < length s → Forward rest f → Forward s (beside l f)
+forward-beside : {s rest : List ℕ} (l : Term) {f : Found} → length rest < length s → Forward rest f
+    → Forward s (beside l f)
 forward-beside l h (past rest k) = past rest (omega arith)
 forward-beside l h (stops at k) = stops at (omega arith)
 
-forward-two : {k : ℕ} {bs : List ℕ} {f : Found} (next : List ℕ → Found) → ((s : List ℕ) → Forward s (next s)) → Forward bs f
+forward-two : {k : ℕ} {bs : List ℕ} {f : Found} (next : List ℕ → Found) → ((s : List ℕ) → Forward s (next s))
+    → Forward bs f
     → Forward (k ∷ bs) (two-parts f next)
 forward-two next ih (past {t = l} rest h) = forward-beside l (omega arith) (ih rest)
 forward-two next ih (stops at h) = stops at (omega arith)
 
-forward-kind : (next : List ℕ → Found) → ((s : List ℕ) → Forward s (next s)) → (k : ℕ) (bs : List ℕ) → Forward (k ∷ bs) (of-kind next k bs)
+forward-kind : (next : List ℕ → Found) → ((s : List ℕ) → Forward s (next s)) → (k : ℕ) (bs : List ℕ)
+    → Forward (k ∷ bs) (of-kind next k bs)
 unfolding of-kind
 forward-kind next ih zero bs = stops (0 ∷ bs) (omega arith)
 forward-kind next ih (suc zero) bs = forward-variable bs (leb 8 (length bs))
@@ -47,12 +52,14 @@ term-forward (suc deep) [] = stops [] (omega arith)
 term-forward (suc deep) (k ∷ bs) = forward-kind (term-in deep) (term-forward deep) k bs
 
 -- two ways to read on that agree on what is no longer
-same-two : {bs : List ℕ} {f : Found} (next next′ : List ℕ → Found) → ((s : List ℕ) → length s ≤ length bs → next s ≡ next′ s) → Forward bs f
+same-two : {bs : List ℕ} {f : Found} (next next′ : List ℕ → Found)
+    → ((s : List ℕ) → length s ≤ length bs → next s ≡ next′ s) → Forward bs f
     → two-parts f next ≡ two-parts f next′
 same-two next next′ same (past {t = l} rest h) = ap (beside l) (same rest (omega arith))
 same-two next next′ same (stops at h) = refl
 
-same-kind : (next next′ : List ℕ → Found) (k : ℕ) (bs : List ℕ) → ((s : List ℕ) → length s ≤ length bs → next s ≡ next′ s) → Forward bs (next′ bs)
+same-kind : (next next′ : List ℕ → Found) (k : ℕ) (bs : List ℕ)
+    → ((s : List ℕ) → length s ≤ length bs → next s ≡ next′ s) → Forward bs (next′ bs)
     → of-kind next k bs ≡ of-kind next′ k bs
 unfolding of-kind
 same-kind next next′ zero bs same f = refl

@@ -1,4 +1,5 @@
--- What a run of eta says of the steps: each was allowed, their number is told, and where one more may follow no place is left.
+-- What a run of eta says of the steps: each was allowed, their number is told, and where one more may follow no place
+-- is left.
 use Prim.Native.Nat.{ℕ, zero, suc, _+_, _≤_, _<_}
 use mathlib.Core.Path.{_≡_, refl, sym, _∙_}
 use mathlib.Core.Bool.{Bool, true, false, not, _||_, cond, true≢false}
@@ -9,8 +10,10 @@ use borrow.Author.Tests.{eqb-true, eqb-false, ltb-true, ltb-false}
 use lib.Dec.{eqb, ltb}
 use Rattle.calculus.specs.Term.{Term, var, lam, app, nodes}
 use Rattle.calculus.specs.Runs.{Run, finished, unfinished}
-use Rattle.calculus.specs.Ends.{EtaStep, at-root, in-body, in-left, in-right, EtaSteps, none-made, one-more, EtaEnds, eta-finished, eta-unfinished}
-use Rattle.calculus.specs.Eta.{lower, eta-step, is-some, has-place, Counted, after, may-follow, step-if, stay-or, while-possible}
+use Rattle.calculus.specs.Ends.{EtaStep, at-root, in-body, in-left, in-right, EtaSteps, none-made, one-more}
+use Rattle.calculus.specs.Ends.{EtaEnds, eta-finished, eta-unfinished}
+use Rattle.calculus.specs.Eta.{lower, eta-step, is-some, has-place, Counted, after, may-follow, step-if, stay-or}
+use Rattle.calculus.specs.Eta.{while-possible}
 use Rattle.calculus.specs.Eta.{as-body, as-right, as-left, do-parts, and-parts, eta-from, eta-ended, eta}
 use Rattle.calculus.proofs.Measures.{nodes-positive}
 use Rattle.calculus.proofs.Tests.{neither}
@@ -22,7 +25,8 @@ steps-then {n = n} none-made q k e = let same : k ≡ n = omega arith in rw same
 steps-then (one-more s p) q zero e = absurd (omega arith)
 steps-then (one-more s p) q (suc k) e = one-more s (steps-then p q k (omega arith))
 
-pub steps-in : (f : Term → Term) → ((t u : Term) → EtaStep t u → EtaStep (f t) (f u)) → {n : ℕ} {t u : Term} → EtaSteps n t u → EtaSteps n (f t) (f u)
+pub steps-in : (f : Term → Term) → ((t u : Term) → EtaStep t u → EtaStep (f t) (f u)) → {n : ℕ} {t u : Term}
+    → EtaSteps n t u → EtaSteps n (f t) (f u)
 steps-in f keep none-made = none-made
 steps-in f keep (one-more {t = t} {u = u} s p) = one-more (keep t u s) (steps-in f keep p)
 
@@ -61,8 +65,10 @@ module _ (more : ℕ → Bool) where
         allowed = λ j h k. elim (decLt j m) [ yes l ↦ p .allowed j h l | no l ↦ q .allowed j (omega arith) k ];
       }
 
-  progress-in : (f : Term → Term) → ((t u : Term) → EtaStep t u → EtaStep (f t) (f u)) → {n m : ℕ} {t u : Term} → Progress n t m u → Progress n (f t) m (f u)
-  progress-in f keep p = record { made = p .made; steps = steps-in f keep (p .steps); count = p .count; allowed = p .allowed }
+  progress-in : (f : Term → Term) → ((t u : Term) → EtaStep t u → EtaStep (f t) (f u)) → {n m : ℕ} {t u : Term}
+      → Progress n t m u → Progress n (f t) m (f u)
+  progress-in f keep p =
+      record { made = p .made; steps = steps-in f keep (p .steps); count = p .count; allowed = p .allowed }
 
   -- where a run of some steps comes to, and what then holds
   pub data Comes (P : ℕ → Term → Type 0) (n : ℕ) (t : Term) : Counted → Type 0 where
@@ -87,11 +93,14 @@ module _ (more : ℕ → Bool) where
         allowed = λ j h l. let same : j ≡ n = omega arith in rw same b;
       }
 
-  comes-after : {P : ℕ → Term → Type 0} {n m : ℕ} {t u : Term} {c : Counted} → Progress n t m u → Comes P m u c → Comes P n t c
+  comes-after : {P : ℕ → Term → Type 0} {n m : ℕ} {t u : Term} {c : Counted} → Progress n t m u → Comes P m u c
+      → Comes P n t c
   comes-after p (comes q r) = comes (progress-then p q) r
 
-  stay-comes : {P : ℕ → Term → Type 0} (n : ℕ) (t : Term) (go : Term → Counted) (x : Option Term) → step-if (more n) t ≡ x
-      → (x ≡ none → P n t) → ((u : Term) → step-if (more n) t ≡ some u → Comes P (suc n) u (go u)) → Comes P n t (stay-or (after n t) go x)
+  stay-comes : {P : ℕ → Term → Type 0} (n : ℕ) (t : Term) (go : Term → Counted) (x : Option Term)
+      → step-if (more n) t ≡ x
+      → (x ≡ none → P n t) → ((u : Term) → step-if (more n) t ≡ some u → Comes P (suc n) u (go u))
+      → Comes P n t (stay-or (after n t) go x)
   stay-comes n t go none e here on = comes (no-progress n t) (here refl)
   stay-comes n t go (some u) e here on = comes-after (one-step n t e) (on u e)
 
@@ -101,7 +110,8 @@ module _ (more : ℕ → Bool) where
   pub while-comes : (tries n : ℕ) (t : Term) → Comes Anything n t (while-possible more tries n t)
   unfolding while-possible
   while-comes zero n t = comes (no-progress n t) tt
-  while-comes (suc tries) n t = stay-comes n t _ (step-if (more n) t) refl (λ _. tt) (λ u _. while-comes tries (suc n) u)
+  while-comes (suc tries) n t =
+      stay-comes n t _ (step-if (more n) t) refl (λ _. tt) (λ u _. while-comes tries (suc n) u)
 
   -- AT AN ABSTRACTION AGAIN: where its body has no place, none is left
   step-if-none : (b : Bool) (t : Term) → eta-step t ≡ none → step-if b t ≡ none
@@ -114,7 +124,8 @@ module _ (more : ℕ → Bool) where
   still (suc tries) n t h = rw (step-if-none (more n) t (placeless t h))
 
   -- the place that a contraction leaves was there before
-  left-placeless : {t u : Term} (b : Term) {x : Option Term} → t ≡ lam b → EtaView t x → x ≡ some u → has-place b ≡ false → has-place u ≡ false
+  left-placeless : {t u : Term} (b : Term) {x : Option Term} → t ≡ lam b → EtaView t x → x ≡ some u
+      → has-place b ≡ false → has-place u ≡ false
   unfolding has-place
   left-placeless {u = u} b e (place {m = m} k) f h =
       let body : b ≡ app m (var 1) = cc in
@@ -122,7 +133,8 @@ module _ (more : ℕ → Bool) where
       rw (← same, place-lower 0 m) (neither (has-place m) false (rw body at h) .0)
   left-placeless b e no-place f h = let never : _≡_ {A = ℕ} 0 1 = cc in absurd (omega arith)
 
-  again-comes : (tries n : ℕ) (b : Term) → Settled n b → Comes Settled n (lam b) (while-possible more (suc tries) n (lam b))
+  again-comes : (tries n : ℕ) (b : Term) → Settled n b
+      → Comes Settled n (lam b) (while-possible more (suc tries) n (lam b))
   unfolding while-possible has-place
   again-comes tries n b s =
       stay-comes n (lam b) _ (step-if (more n) (lam b)) refl here on
@@ -130,7 +142,8 @@ module _ (more : ℕ → Bool) where
       here : step-if (more n) (lam b) ≡ none → Settled n (lam b)
       here e a = rw (rw a at e, s a)
 
-      on : (u : Term) → step-if (more n) (lam b) ≡ some u → Comes Settled (suc n) u (while-possible more tries (suc n) u)
+      on : (u : Term) → step-if (more n) (lam b) ≡ some u
+          → Comes Settled (suc n) u (while-possible more tries (suc n) u)
       on u e =
           let (a, k) = step-allowed (more n) (lam b) e in
           let h : has-place u ≡ false = left-placeless b refl (eta-view (lam b)) k (s a) in
@@ -153,13 +166,15 @@ module _ (more : ℕ → Bool) where
         → Comes Settled n (app l r) (as-right l′ c)
     join-right p s (comes q z) = right-comes p s q z
 
-    join-left : {n : ℕ} {l : Term} (r : Term) {c : Counted} → ((m : ℕ) → Comes Settled m r (go m r)) → Comes Settled n l c
+    join-left : {n : ℕ} {l : Term} (r : Term) {c : Counted} → ((m : ℕ) → Comes Settled m r (go m r))
+        → Comes Settled n l c
         → Comes Settled n (app l r) (as-left go r c)
     join-left r on (comes {m = m} p s) = join-right p s (on m)
 
   join-body : (tries : ℕ) {n : ℕ} {b : Term} {c : Counted} → Comes Settled n b c
       → Comes Settled n (lam b) (as-body (while-possible more (suc tries)) c)
-  join-body tries (comes {m = m} {u = b′} p s) = comes-after (progress-in lam (λ _ _ e. in-body e) p) (again-comes tries m b′ s)
+  join-body tries (comes {m = m} {u = b′} p s) =
+      comes-after (progress-in lam (λ _ _ e. in-body e) p) (again-comes tries m b′ s)
 
   parts-come : (tries n : ℕ) (t : Term) → nodes t ≤ suc tries → (go : ℕ → Term → Counted)
       → ((m : ℕ) (u : Term) → nodes u ≤ tries → Comes Settled m u (go m u))
@@ -179,7 +194,8 @@ module _ (more : ℕ → Bool) where
   pub eta-comes : (tries n : ℕ) (t : Term) → nodes t ≤ tries → Comes Settled n t (eta-from more tries n t)
   unfolding eta-from
   eta-comes zero n t h = absurd (omega (arith, nodes-positive t))
-  eta-comes (suc tries) n t h = after-while tries n t h (eta-from more tries) (eta-comes tries) (while-comes (suc tries) n t)
+  eta-comes (suc tries) n t h =
+      after-while tries n t h (eta-from more tries) (eta-comes tries) (while-comes (suc tries) n t)
 
 -- HOW A RUN ENDS: no step may follow just where a limit is reached
 may-not : (limit n : ℕ) → may-follow limit n ≡ false → (0 < limit) × (limit ≤ n)
@@ -200,7 +216,8 @@ within-limit : (limit : ℕ) {t u : Term} {m : ℕ} → Progress (may-follow lim
 within-limit limit {m = zero} p h = omega arith
 within-limit limit {m = suc m} p h = may limit m (p .allowed m (omega arith) (omega arith)) h
 
-ended : (limit : ℕ) {t u : Term} {m : ℕ} → Progress (may-follow limit) 0 t m u → Settled (may-follow limit) m u → (b : Bool) → has-place u ≡ b
+ended : (limit : ℕ) {t u : Term} {m : ℕ} → Progress (may-follow limit) 0 t m u → Settled (may-follow limit) m u
+    → (b : Bool) → has-place u ≡ b
     → (more : Bool) → may-follow limit m ≡ more → EtaEnds limit t (cond b (unfinished m u) (finished m u))
 ended limit {m = m} p s false h more f =
     let same : p .made ≡ m = omega (arith, p .count) in
@@ -212,7 +229,8 @@ ended limit {t = t} {u = u} {m = m} p s true h false f =
     let made : p .made ≡ limit = omega (arith, p .count) in
     rw same (eta-unfinished k (rw made at (p .steps)) h)
 
-come-ends : (limit : ℕ) {t : Term} {c : Counted} → Comes (may-follow limit) (Settled (may-follow limit)) 0 t c → EtaEnds limit t (eta-ended c)
+come-ends : (limit : ℕ) {t : Term} {c : Counted} → Comes (may-follow limit) (Settled (may-follow limit)) 0 t c
+    → EtaEnds limit t (eta-ended c)
 unfolding has-place
 come-ends limit (comes {m = m} {u = u} p s) = ended limit p s (has-place u) refl (may-follow limit m) refl
 

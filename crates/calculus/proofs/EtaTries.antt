@@ -6,20 +6,24 @@ use mathlib.Core.Option.{Option, none, some}
 use native.Mathlib.Omega.{arith}
 use Rattle.calculus.specs.Term.{Term, var, lam, app, nodes}
 use Rattle.calculus.specs.Ends.{at-root}
-use Rattle.calculus.specs.Eta.{Counted, after, step-if, stay-or, while-possible, as-body, as-right, as-left, do-parts, and-parts, eta-from}
+use Rattle.calculus.specs.Eta.{Counted, after, step-if, stay-or, while-possible, as-body, as-right, as-left}
+use Rattle.calculus.specs.Eta.{do-parts, and-parts, eta-from}
 use Rattle.calculus.proofs.Measures.{nodes-positive}
 use Rattle.calculus.proofs.Lowering.{eta-smaller}
-use Rattle.calculus.proofs.EtaRuns.{nodes-taken, Comes, comes, Settled, Anything, step-allowed, while-comes, eta-comes}
+use Rattle.calculus.proofs.EtaRuns.{nodes-taken, Comes, comes, Settled, Anything, step-allowed, while-comes}
+use Rattle.calculus.proofs.EtaRuns.{eta-comes}
 
 module _ (more : ℕ → Bool) where
-  on-fewer : (n : ℕ) (t : Term) (f g : Term → Counted) → ((u : Term) → nodes u < nodes t → f u ≡ g u) → (x : Option Term) → step-if (more n) t ≡ x
+  on-fewer : (n : ℕ) (t : Term) (f g : Term → Counted) → ((u : Term) → nodes u < nodes t → f u ≡ g u)
+      → (x : Option Term) → step-if (more n) t ≡ x
       → stay-or (after n t) f x ≡ stay-or (after n t) g x
   on-fewer n t f g same none e = refl
   on-fewer n t f g same (some u) e =
       let (_, k) = step-allowed more (more n) t e in
       same u (omega (arith, eta-smaller {t = t} (at-root k) .three-nodes))
 
-  pub while-enough : (j k n : ℕ) (t : Term) → nodes t ≤ j → nodes t ≤ k → while-possible more j n t ≡ while-possible more k n t
+  pub while-enough : (j k n : ℕ) (t : Term) → nodes t ≤ j → nodes t ≤ k
+      → while-possible more j n t ≡ while-possible more k n t
   unfolding while-possible
   while-enough zero k n t f g = absurd (omega (arith, nodes-positive t))
   while-enough (suc j) zero n t f g = absurd (omega (arith, nodes-positive t))
@@ -33,13 +37,15 @@ module _ (more : ℕ → Bool) where
         → as-body (while-possible more (suc j)) c ≡ as-body (while-possible more (suc k)) c
     unfolding nodes
     same-body f g (comes {m = m} {u = b} p _) =
-        while-enough (suc j) (suc k) m (lam b) (omega (arith, nodes-taken (p .steps))) (omega (arith, nodes-taken (p .steps)))
+        while-enough (suc j) (suc k) m (lam b) (omega (arith, nodes-taken (p .steps)))
+        (omega (arith, nodes-taken (p .steps)))
 
     same-left : (r : Term) → ((m : ℕ) → go m r ≡ go′ m r) → (c : Counted) → as-left go r c ≡ as-left go′ r c
     same-left r same (after m l) = ap (as-right l) (same m)
 
     same-parts : (n : ℕ) (t : Term) → nodes t ≤ suc j → nodes t ≤ suc k
-        → ((m : ℕ) (u : Term) → nodes u < nodes t → go m u ≡ go′ m u) → ((m : ℕ) (u : Term) → nodes u < nodes t → Comes more (Settled more) m u (go′ m u))
+        → ((m : ℕ) (u : Term) → nodes u < nodes t → go m u ≡ go′ m u)
+        → ((m : ℕ) (u : Term) → nodes u < nodes t → Comes more (Settled more) m u (go′ m u))
         → do-parts (while-possible more (suc j)) go n t ≡ do-parts (while-possible more (suc k)) go′ n t
     unfolding nodes
     same-parts n (var i) f g same on = refl
@@ -49,7 +55,8 @@ module _ (more : ℕ → Bool) where
         ap (as-left go r) (same n l (omega arith)) ∙ same-left r (λ m. same m r (omega arith)) (go′ n l)
 
     same-after : (n : ℕ) (t : Term) → nodes t ≤ suc j → nodes t ≤ suc k
-        → ((m : ℕ) (u : Term) → nodes u < nodes t → go m u ≡ go′ m u) → ((m : ℕ) (u : Term) → nodes u < nodes t → Comes more (Settled more) m u (go′ m u))
+        → ((m : ℕ) (u : Term) → nodes u < nodes t → go m u ≡ go′ m u)
+        → ((m : ℕ) (u : Term) → nodes u < nodes t → Comes more (Settled more) m u (go′ m u))
         → {c : Counted} → Comes more (Anything more) n t c
         → and-parts (while-possible more (suc j)) go c ≡ and-parts (while-possible more (suc k)) go′ c
     same-after n t f g same on (comes {m = m} {u = u} p _) =
@@ -62,5 +69,6 @@ module _ (more : ℕ → Bool) where
   eta-enough (suc j) zero n t f g = absurd (omega (arith, nodes-positive t))
   eta-enough (suc j) (suc k) n t f g =
       ap (and-parts (while-possible more (suc j)) (eta-from more j)) (while-enough (suc j) (suc k) n t f g)
-      ∙ same-after j k (eta-from more j) (eta-from more k) n t f g (λ m u h. eta-enough j k m u (omega arith) (omega arith))
+      ∙ same-after j k (eta-from more j) (eta-from more k) n t f g
+      (λ m u h. eta-enough j k m u (omega arith) (omega arith))
       (λ m u h. eta-comes more k m u (omega arith)) (while-comes more (suc k) n t)

@@ -21,7 +21,8 @@ pub nodes-put : (d : ℕ) (a t : Term) → nodes (put d a t) + occurs d t ≡ no
 unfolding nodes put occurs
 nodes-put d a (var i) = by-side (compare i (suc d))
   where
-    by-side : (x : Ordering) → nodes (compared x (var i) (raise d 0 a) (var (pred i))) + compared x 0 1 0 ≡ 1 + compared x 0 1 0 * nodes a
+    by-side : (x : Ordering)
+        → nodes (compared x (var i) (raise d 0 a) (var (pred i))) + compared x 0 1 0 ≡ 1 + compared x 0 1 0 * nodes a
     by-side Ordering·lt = omega arith
     by-side Ordering·eq = rw (nodes-raise d 0 a) (omega arith)
     by-side Ordering·gt = omega arith

@@ -8,7 +8,8 @@ use native.Mathlib.Decide.{decLe}
 use borrow.Author.Tests.{le-leb, lt-leb}
 use Rattle.calculus.specs.Term.{Term, nodes, height, greatest-index}
 use Rattle.calculus.specs.Bounds.{most-height, greatest-number}
-use Rattle.calculus.specs.Refusal.{Refusal, Answer, given, refused, _then_, too-high, too-many-nodes, index-too-great}
+use Rattle.calculus.specs.Refusal.{Refusal, Answer, given, refused, _then_, too-high, too-many-nodes}
+use Rattle.calculus.specs.Refusal.{index-too-great}
 use Rattle.calculus.specs.Judging.{within, next-within, refusal-in, judge}
 use Rattle.calculus.specs.Bytes.{decode}
 use Rattle.calculus.specs.Outcomes.{checked}
@@ -35,7 +36,8 @@ pub in-bounds-given : {cap : ℕ} (t : Term) → height t ≤ most-height → no
 unfolding within
 in-bounds-given {cap} t h k = rw (le-leb (height t) most-height h, le-leb (nodes t) cap k)
 
-pub given-in-bounds : {cap : ℕ} (t : Term) {u : Term} → within cap t ≡ given u → (t ≡ u) × (height t ≤ most-height) × (nodes t ≤ cap)
+pub given-in-bounds : {cap : ℕ} (t : Term) {u : Term} → within cap t ≡ given u
+    → (t ≡ u) × (height t ≤ most-height) × (nodes t ≤ cap)
 given-in-bounds {cap} t e = read (rw e at (within-judged cap t))
   where
     read : {u : Term} → Judgement cap t (given u) → (t ≡ u) × (height t ≤ most-height) × (nodes t ≤ cap)
@@ -55,11 +57,13 @@ next-judged cap t =
     ]
 
 -- the next term is let through
-pub accepts : {cap : ℕ} (t : Term) → greatest-index t ≤ greatest-number → height t ≤ most-height → nodes t ≤ cap → judge cap t ≡ none
+pub accepts : {cap : ℕ} (t : Term) → greatest-index t ≤ greatest-number → height t ≤ most-height → nodes t ≤ cap
+    → judge cap t ≡ none
 unfolding next-within
 accepts {cap} t i h k = rw (le-leb (greatest-index t) greatest-number i, in-bounds-given t h k)
 
-pub accepted : {cap : ℕ} (t : Term) → judge cap t ≡ none → (greatest-index t ≤ greatest-number) × (height t ≤ most-height) × (nodes t ≤ cap)
+pub accepted : {cap : ℕ} (t : Term) → judge cap t ≡ none
+    → (greatest-index t ≤ greatest-number) × (height t ≤ most-height) × (nodes t ≤ cap)
 accepted {cap} t e = read (next-judged cap t) e
   where
     inner : {r : Answer Term} → Judgement cap t r → refusal-in r ≡ none → (height t ≤ most-height) × (nodes t ≤ cap)
@@ -82,13 +86,16 @@ pub checked-given : {cap : ℕ} (s : List ℕ) {t : Term} → checked cap s ≡ 
 unfolding checked
 checked-given {cap} s {t} e = read (decode s) refl e
   where
-    read : (r : Answer Term) → decode s ≡ r → (r then within cap) ≡ given t → (decode s ≡ given t) × (height t ≤ most-height) × (nodes t ≤ cap)
+    read : (r : Answer Term) → decode s ≡ r → (r then within cap) ≡ given t
+        → (decode s ≡ given t) × (height t ≤ most-height) × (nodes t ≤ cap)
     read (given u) d w = let (p, h, k) = given-in-bounds u w in (rw p at d, rw p at h, rw p at k)
     read (refused r) d w = let never : _≡_ {A = ℕ} 0 1 = cc in absurd (omega arith)
 
-pub given-checked : {cap : ℕ} (s : List ℕ) {t : Term} → decode s ≡ given t → height t ≤ most-height → nodes t ≤ cap → checked cap s ≡ given t
+pub given-checked : {cap : ℕ} (s : List ℕ) {t : Term} → decode s ≡ given t → height t ≤ most-height → nodes t ≤ cap
+    → checked cap s ≡ given t
 unfolding checked
 given-checked s {t} d h k = rw d (in-bounds-given t h k)
 
-pub checked-more : {cap cap′ : ℕ} (s : List ℕ) {t : Term} → cap ≤ cap′ → checked cap s ≡ given t → checked cap′ s ≡ given t
+pub checked-more : {cap cap′ : ℕ} (s : List ℕ) {t : Term} → cap ≤ cap′ → checked cap s ≡ given t
+    → checked cap′ s ≡ given t
 checked-more s h e = let (d, l, k) = checked-given s e in given-checked s d l (omega arith)

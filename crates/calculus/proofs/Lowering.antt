@@ -43,7 +43,8 @@ height-lower d (app l r) = rw (height-lower d l, height-lower d r)
 
 pub index-lower : (d : ℕ) (t : Term) → greatest-index (lower d t) ≤ greatest-index t
 unfolding greatest-index lower
-index-lower d (var i) = lowered (λ t. greatest-index t ≤ i) d i (λ h. omega arith) (λ h. let less : pred i ≤ i = omega arith in less)
+index-lower d (var i) =
+    lowered (λ t. greatest-index t ≤ i) d i (λ h. omega arith) (λ h. let less : pred i ≤ i = omega arith in less)
 index-lower d (lam b) = index-lower (suc d) b
 index-lower d (app l r) = omega (arith, index-lower d l, index-lower d r)
 
@@ -66,7 +67,8 @@ blocked-lower c d h (app l r) = ap₂ _||_ (blocked-lower c d h l) (blocked-lowe
 one-lower : (d : ℕ) (t : Term) → is-one (lower (suc d) t) ≡ is-one t
 unfolding lower
 one-lower d (var i) =
-    lowered (λ t. is-one t ≡ eqb i 1) (suc d) i (λ g. refl) (λ g. rw (ne-eqb (pred i) 1 (λ e. omega arith), ne-eqb i 1 (λ e. omega arith)))
+    lowered (λ t. is-one t ≡ eqb i 1) (suc d) i (λ g. refl)
+    (λ g. rw (ne-eqb (pred i) 1 (λ e. omega arith), ne-eqb i 1 (λ e. omega arith)))
 one-lower d (lam b) = refl
 one-lower d (app l r) = refl
 
@@ -102,7 +104,8 @@ pub data EtaView : Term → Option Term → Type 0 where
   place : {m : Term} → blocked 0 m ≡ false → EtaView (lam (app m (var 1))) (some (lower 0 m))
   no-place : {t : Term} → EtaView t none
 
-view-body : (m a : Term) (b : Bool) → is-one a ≡ true → blocked 0 m ≡ b → EtaView (lam (app m a)) (cond b none (some (lower 0 m)))
+view-body : (m a : Term) (b : Bool) → is-one a ≡ true → blocked 0 m ≡ b
+    → EtaView (lam (app m a)) (cond b none (some (lower 0 m)))
 view-body m (var i) true o e = no-place
 view-body m (var i) false o e = let one : i ≡ 1 = eqb-true i 1 o in rw one (place e)
 view-body m (lam c) b o e = absurd (true≢false (sym o))
@@ -129,23 +132,12 @@ smaller-at : {t u : Term} {x : Option Term} → EtaView t x → x ≡ some u →
 unfolding nodes height greatest-index
 smaller-at {u = u} (place {m = m} b) e =
     let same : lower 0 m ≡ u = cc in
-    rw (← same)
-    (record {
-      three-nodes = omega (arith, nodes-lower 0 m);
-      no-higher = omega (arith, height-lower 0 m);
-      no-greater = omega (arith, index-lower 0 m);
-    })
+    rw (← same) (omega (arith, nodes-lower 0 m, height-lower 0 m, index-lower 0 m))
 smaller-at no-place e = let never : _≡_ {A = ℕ} 0 1 = cc in absurd (omega arith)
 
 pub eta-smaller : {t u : Term} → EtaStep t u → Smaller t u
 unfolding nodes height greatest-index
 eta-smaller (at-root {t = t} e) = smaller-at (eta-view t) e
-eta-smaller (in-body s) =
-    let h = eta-smaller s in
-    record { three-nodes = omega (arith, h .three-nodes); no-higher = omega (arith, h .no-higher); no-greater = h .no-greater }
-eta-smaller (in-left s) =
-    let h = eta-smaller s in
-    record { three-nodes = omega (arith, h .three-nodes); no-higher = omega (arith, h .no-higher); no-greater = omega (arith, h .no-greater) }
-eta-smaller (in-right s) =
-    let h = eta-smaller s in
-    record { three-nodes = omega (arith, h .three-nodes); no-higher = omega (arith, h .no-higher); no-greater = omega (arith, h .no-greater) }
+eta-smaller (in-body s) = omega (arith, eta-smaller s)
+eta-smaller (in-left s) = omega (arith, eta-smaller s)
+eta-smaller (in-right s) = omega (arith, eta-smaller s)

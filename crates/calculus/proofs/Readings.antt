@@ -4,8 +4,10 @@ use mathlib.Core.Path.{_≡_, refl}
 use mathlib.Core.List.{List, [], _∷_, _++_, map}
 use lib.ListN.{replicate}
 use Rattle.calculus.specs.Term.{Term, var, lam, app}
-use Rattle.calculus.specs.Refusal.{Answer, given, refused, outside-bounds, too-little-room, outside-domain, invalid-character}
-use Rattle.calculus.specs.Refusal.{undefined-free-variable, too-high, empty-expression, too-many-nodes, not-a-term, not-abs, index-too-great}
+use Rattle.calculus.specs.Refusal.{Answer, given, refused, outside-bounds, too-little-room, outside-domain}
+use Rattle.calculus.specs.Refusal.{invalid-character}
+use Rattle.calculus.specs.Refusal.{undefined-free-variable, too-high, empty-expression, too-many-nodes}
+use Rattle.calculus.specs.Refusal.{not-a-term, not-abs, index-too-great}
 use Rattle.calculus.specs.Bytes.{decode}
 use Rattle.calculus.specs.Judging.{next-within}
 use Rattle.calculus.specs.Orders.{NOR, CBN}
@@ -14,7 +16,8 @@ use Rattle.calculus.specs.Reading.{Notation, de-bruijn, classic, read-te
 use Rattle.calculus.specs.Writing.{write-text, name-text}
 use Rattle.calculus.specs.Outcomes.{reduce-of, eta-of}
 use Rattle.calculus.specs.Program.{program-of}
-use Rattle.calculus.specs.Examples.{Example, _gives_, parse, apply, eta, reduce, answers, runs, call-of, wanted-of, outcome, wanted, text}
+use Rattle.calculus.specs.Examples.{Example, _gives_, parse, apply, eta, reduce, answers, runs, call-of}
+use Rattle.calculus.specs.Examples.{wanted-of, outcome, wanted, text}
 
 abbrev last : ℕ
 last = 2 ^ 64 - 1

@@ -7,10 +7,12 @@ use Rattle.calculus.specs.Term.{Term}
 use Rattle.calculus.specs.Refusal.{Refusal}
 use Rattle.calculus.specs.Orders.{Order, step}
 use Rattle.calculus.specs.Runs.{Run, finished, unfinished, refused-after}
-use Rattle.calculus.specs.Ends.{Steps, stay, go, Accepted, stay-so, go-on, Ends, ends-finished, ends-unfinished, ends-refused}
+use Rattle.calculus.specs.Ends.{Steps, stay, go, Accepted, stay-so, go-on, Ends, ends-finished, ends-unfinished}
+use Rattle.calculus.specs.Ends.{ends-refused}
 use Rattle.calculus.specs.Runs.{counted, by-step, by-judge, run}
 
-pub accepted-steps : {judge : Term → Option Refusal} {o : Order} {n : ℕ} {t u : Term} → Accepted judge o n t u → Steps o n t u
+pub accepted-steps : {judge : Term → Option Refusal} {o : Order} {n : ℕ} {t u : Term} → Accepted judge o n t u
+    → Steps o n t u
 accepted-steps stay-so = stay
 accepted-steps (go-on e a s) = go e (accepted-steps s)
 
@@ -27,12 +29,14 @@ module _ (judge : Term → Option Refusal) (o : Order) where
   ends-counted e a (ends-unfinished s k) = ends-unfinished (go-on e a s) k
   ends-counted e a (ends-refused h s k j) = ends-refused (suc-le-suc h) (go-on e a s) k j
 
-  ends-judged : {limit : ℕ} {t u : Term} {r : Run Term} → step o t ≡ some u → Ends judge o limit u r → (x : Option Refusal) → judge u ≡ x
+  ends-judged : {limit : ℕ} {t u : Term} {r : Run Term} → step o t ≡ some u → Ends judge o limit u r
+      → (x : Option Refusal) → judge u ≡ x
       → Ends judge o (suc limit) t (by-judge x r)
   ends-judged e s none a = ends-counted e a s
   ends-judged e s (some x) a = ends-refused (suc-le-suc zero-le) stay-so e a
 
-  ends-by-step : {limit : ℕ} {t : Term} (more : Term → Run Term) → ((u : Term) → step o t ≡ some u → Ends judge o limit t (more u))
+  ends-by-step : {limit : ℕ} {t : Term} (more : Term → Run Term)
+      → ((u : Term) → step o t ≡ some u → Ends judge o limit t (more u))
       → (x : Option Term) → step o t ≡ x → Ends judge o limit t (by-step t more x)
   ends-by-step more h none e = ends-finished zero-le stay-so e
   ends-by-step more h (some u) e = h u e
@@ -51,12 +55,14 @@ module _ (judge : Term → Option Refusal) (o : Order) where
   run-finishes zero h (go-on e a s) k = absurd (omega arith)
   run-finishes (suc limit) h (go-on e a s) k = rw (e, a) (ap counted (run-finishes limit (omega arith) s k))
 
-  run-leaves : {t u v : Term} (limit : ℕ) → Accepted judge o limit t u → step o u ≡ some v → run judge o limit t ≡ unfinished limit u
+  run-leaves : {t u v : Term} (limit : ℕ) → Accepted judge o limit t u → step o u ≡ some v
+      → run judge o limit t ≡ unfinished limit u
   unfolding run
   run-leaves zero stay-so k = rw k
   run-leaves (suc limit) (go-on e a s) k = rw (e, a) (ap counted (run-leaves limit s k))
 
-  run-refuses : {n : ℕ} {t u v : Term} {x : Refusal} (limit : ℕ) → n < limit → Accepted judge o n t u → step o u ≡ some v → judge v ≡ some x
+  run-refuses : {n : ℕ} {t u v : Term} {x : Refusal} (limit : ℕ) → n < limit → Accepted judge o n t u
+      → step o u ≡ some v → judge v ≡ some x
       → run judge o limit t ≡ refused-after n x
   unfolding run
   run-refuses zero h s k j = absurd (omega arith)

@@ -8,7 +8,8 @@ use Rattle.calculus.specs.Term.{Term, var, lam, app}
 use Rattle.calculus.specs.Numbers.{number}
 use Rattle.calculus.specs.Refusal.{Answer, given, refused, not-a-term}
 
--- n in k + 1 bytes, low byte first; the last place has all that is left of n, which is a byte where n is below 256 ^ (k + 1)
+-- n in k + 1 bytes, low byte first; the last place has all that is left of n, which is a byte where n is below 256 ^ (k
+-- + 1)
 unfoldable pub digits : ℕ → ℕ → List ℕ
 digits zero n = n ∷ []
 digits (suc k) n = n % 256 ∷ digits k (n / 256)

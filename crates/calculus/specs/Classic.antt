@@ -39,7 +39,8 @@ binder-ended x (c ∷ cs) = cond (eqb c 46) (word (binder x) cs) (invalid (c ∷
 unfoldable pub bound : List ℕ → Next
 unfolding binder-ended start rest
 bound [] = word (binder []) []
-bound (c ∷ cs) = cond (is-figure c) (invalid (c ∷ cs)) (binder-ended (start in-binder (c ∷ cs)) (rest in-binder (c ∷ cs)))
+bound (c ∷ cs) =
+    cond (is-figure c) (invalid (c ∷ cs)) (binder-ended (start in-binder (c ∷ cs)) (rest in-binder (c ∷ cs)))
 
 -- the word at a character, by what it is
 unfoldable pub word-at : Glyph → ℕ → List ℕ → Next

@@ -17,7 +17,8 @@ pub data Steps (o : Order) : ℕ → Term → Term → Type 0 where
 -- n steps, each to a term that a judge accepts
 pub data Accepted (judge : Term → Option Refusal) (o : Order) : ℕ → Term → Term → Type 0 where
   stay-so : {t : Term} → Accepted judge o 0 t t
-  go-on : {n : ℕ} {t u v : Term} → step o t ≡ some u → judge u ≡ none → Accepted judge o n u v → Accepted judge o (suc n) t v
+  go-on : {n : ℕ} {t u v : Term} → step o t ≡ some u → judge u ≡ none → Accepted judge o n u v
+      → Accepted judge o (suc n) t v
 
 pub data Ends (judge : Term → Option Refusal) (o : Order) (limit : ℕ) (t : Term) : Run Term → Type 0 where
   -- Finished: no step is left, also when the count equals the limit
@@ -27,7 +28,8 @@ pub data Ends (judge : Term → Option Refusal) (o : Order) (limit : ℕ) (t : T
   ends-unfinished : {u v : Term} → Accepted judge o limit t u → step o u ≡ some v
       → Ends judge o limit t (unfinished limit u)
   -- refused: short of the limit, the next term is not accepted
-  ends-refused : {n : ℕ} {u v : Term} {e : Refusal} → n < limit → Accepted judge o n t u → step o u ≡ some v → judge v ≡ some e
+  ends-refused : {n : ℕ} {u v : Term} {e : Refusal} → n < limit → Accepted judge o n t u → step o u ≡ some v
+      → judge v ≡ some e
       → Ends judge o limit t (refused-after n e)
 
 -- ETA: one contraction at any place, and n of them

@@ -25,7 +25,8 @@ at-end (some t) [] = given t
 at-end (some t) (for-group p ∷ ps) = at-end (some (applied p t)) ps
 at-end (some t) (for-body p ∷ ps) = at-end (some (applied p (lam t))) ps
 
--- the part at a `)`: bodies end up to the group that it closes, and reading goes on there; with no group it ends the text
+-- the part at a `)`: bodies end up to the group that it closes, and reading goes on there; with no group it ends the
+-- text
 unfoldable pub at-right : (Part → List Waits → Answer Term) → Part → List Waits → Answer Term
 at-right go none ps = refused empty-expression
 at-right go (some t) [] = given t

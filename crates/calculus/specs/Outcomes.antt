@@ -89,7 +89,8 @@ abbrev pub Outcome : Type 0 → Type 0
 Outcome A = A × List ℕ × List ℕ
 
 -- 1, then 2, which change nothing; then the work, after which the room is cleared
-abbrev pub lent : {A : Type 0} → (Refusal → A) → (in-bounds enough : Bool) → (cap : ℕ) → A × List ℕ → (out room : List ℕ) → Outcome A
+abbrev pub lent : {A : Type 0} → (Refusal → A) → (in-bounds enough : Bool) → (cap : ℕ) → A × List ℕ
+    → (out room : List ℕ) → Outcome A
 lent refuse false enough cap done out room = (refuse outside-bounds, out, room)
 lent refuse true false cap done out room = (refuse too-little-room, out, room)
 lent refuse true true cap done out room = (done .0, done .1, cleared cap room)
@@ -136,7 +137,8 @@ run-on (refused e) go = refused-after 0 e
 unfoldable pub eta-of : (limit cap : ℕ) (s : List ℕ) (out room : List ℕ) → Outcome (Run ℕ)
 unfolding checked eta encode
 eta-of limit cap s out room =
-    lent (refused-after 0) (cap-allowed cap) (suffice cap out room) cap (stored-run (run-on (checked cap s) (eta limit)) out) out room
+    lent (refused-after 0) (cap-allowed cap) (suffice cap out room) cap
+    (stored-run (run-on (checked cap s) (eta limit)) out) out room
 
 -- REDUCTION: the input, then the steps
 abbrev pub limit-allowed : ℕ → Bool
@@ -149,4 +151,5 @@ reduced o limit cap s = run-on (checked cap s) (run (judge cap) o limit)
 unfoldable pub reduce-of : Order → (limit cap : ℕ) (s : List ℕ) (out room : List ℕ) → Outcome (Run ℕ)
 unfolding reduced encode
 reduce-of o limit cap s out room =
-    lent (refused-after 0) (cap-allowed cap && limit-allowed limit) (suffice cap out room) cap (stored-run (reduced o limit cap s) out) out room
+    lent (refused-after 0) (cap-allowed cap && limit-allowed limit) (suffice cap out room) cap
+    (stored-run (reduced o limit cap s) out) out room

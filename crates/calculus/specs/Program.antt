@@ -53,7 +53,8 @@ past b (c ∷ cs) = cond (eqb b c) (some cs) none
 abbrev pub limit-in : List ℕ → Option ℕ
 limit-in ds = cond (between 1 7 (length ds)) (some (number 10 (reverse (map (λ c. c - 48) ds)))) none
 
--- THE FIRST LINE: an order's three letters, a space, a limit, a space, the notation, a line feed; none if it is malformed
+-- THE FIRST LINE: an order's three letters, a space, a limit, a space, the notation, a line feed; none if it is
+-- malformed
 unfoldable pub first-line : List ℕ → Option Job
 unfolding look-up order-words notation-words start rest number
 first-line s = do
@@ -95,4 +96,6 @@ done-or-malformed (some j) = done j
 -- too many bytes are 3, before the first line is looked at
 unfoldable pub program-of : List ℕ → List ℕ
 unfolding codes numeral write-text refusal-number first-line read-text run next-within put
-program-of s = cond (leb (length s) most-input) (done-or-malformed (first-line s)) (report de-bruijn (refused-after 0 text-too-long))
+program-of s =
+    cond (leb (length s) most-input) (done-or-malformed (first-line s))
+    (report de-bruijn (refused-after 0 text-too-long))

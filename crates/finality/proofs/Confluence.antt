@@ -44,7 +44,8 @@ pars→many (next p ps) = many-trans (par→many p) (pars→many ps)
 
 pub church-rosser : {t u v : Term} → Many Beta t u → Many Beta t v → Meet Beta u v
 church-rosser p q =
-    let (w, uw, vw) = par-confluent (many-map (λ x. x) (λ _ _ r. beta→par r) p) (many-map (λ x. x) (λ _ _ r. beta→par r) q) in
+    let (w, uw, vw) = par-confluent (many-map (λ x. x) (λ _ _ r. beta→par r) p)
+    (many-map (λ x. x) (λ _ _ r. beta→par r) q) in
     (w, pars→many uw, pars→many vw)
 
 pub normal-unique : {t u v : Term} → Many Beta t u → Normal u → Many Beta t v → Normal v → u ≡ v

@@ -12,15 +12,16 @@ use Rattle.calculus.specs.Bytes.{decode}
 use Rattle.calculus.specs.Judging.{judge}
 use Rattle.calculus.specs.Runs.{Run, finished, unfinished, refused-after}
 use Rattle.calculus.specs.Eta.{eta-step, is-some, has-place, eta}
-use Rattle.calculus.specs.Ends.{EtaStep, at-root, in-body, in-left, in-right, EtaSteps, none-made, one-more, EtaEnds, eta-finished, eta-unfinished}
+use Rattle.calculus.specs.Ends.{EtaStep, at-root, in-body, in-left, in-right, EtaSteps, none-made, one-more, EtaEnds}
+use Rattle.calculus.specs.Ends.{eta-finished, eta-unfinished}
 use Rattle.calculus.specs.Outcomes.{checked, cap-allowed, suffice, eta-of}
 use Rattle.calculus.proofs.Coding.{AllBytes, decoded-small}
 use Rattle.calculus.proofs.Judged.{accepts, checked-given}
 use Rattle.calculus.proofs.Tests.{neither}
 use Rattle.calculus.proofs.Lowering.{eta-smaller}
 use Rattle.calculus.proofs.EtaRuns.{eta-ends, placeless}
-use Rattle.finality.specs.Meaning.{Answers, out-of-bounds, room-lacking, input-refused, run-refused}
-use Rattle.finality.proofs.Meaning.{eta-means}
+use Rattle.finality.specs.Meaning.{out-of-bounds, room-lacking, input-refused, run-refused}
+use Rattle.finality.proofs.Meaning.{EtaReduces, eta-means}
 
 -- so many steps take three times so many nodes, and raise nothing
 pub record Shrinks (n : ℕ) (t u : Term) : Type 0 where
@@ -29,47 +30,44 @@ pub record Shrinks (n : ℕ) (t u : Term) : Type 0 where
   pub no-greater : greatest-index u ≤ greatest-index t
 
 pub eta-shrinks : {n : ℕ} {t u : Term} → EtaSteps n t u → Shrinks n t u
-eta-shrinks none-made = record { three-each = omega arith; no-higher = omega arith; no-greater = omega arith }
-eta-shrinks (one-more s p) =
-    let h = eta-smaller s in
-    let k = eta-shrinks p in
-    record {
-      three-each = omega (arith, h .three-nodes, k .three-each);
-      no-higher = omega (arith, h .no-higher, k .no-higher);
-      no-greater = omega (arith, h .no-greater, k .no-greater);
-    }
+eta-shrinks none-made = omega arith
+eta-shrinks (one-more s p) = omega (arith, eta-smaller s, eta-shrinks p)
 
 -- NO REFUSAL CAN FOLLOW: every term that eta reaches from an accepted input would be accepted
-pub eta-accepted : (cap : ℕ) {n : ℕ} (s : List ℕ) {t u : Term} → AllBytes s → checked cap s ≡ given t → EtaSteps n t u → judge cap u ≡ none
+pub eta-accepted : (cap : ℕ) {n : ℕ} (s : List ℕ) {t u : Term} → AllBytes s → checked cap s ≡ given t → EtaSteps n t u
+    → judge cap u ≡ none
 eta-accepted cap s {t} {u} b c p =
     let (d, h, k) = checked-given s c in
     let q = eta-shrinks p in
-    accepts u (omega (arith, q .no-greater, decoded-small s b d)) (omega (arith, q .no-higher)) (omega (arith, q .three-each))
+    accepts u (omega (arith, q .no-greater, decoded-small s b d)) (omega (arith, q .no-higher))
+    (omega (arith, q .three-each))
 
 -- and none does follow: the answer is no refusal
-pub eta-never-refused : (limit cap : ℕ) (s out room : List ℕ) {t : Term} → cap-allowed cap ≡ true → suffice cap out room ≡ true → checked cap s ≡ given t
+pub eta-never-refused : (limit cap : ℕ) (s out room : List ℕ) {t : Term}
+    → cap-allowed cap ≡ true → suffice cap out room ≡ true → checked cap s ≡ given t
     → {n : ℕ} {e : Refusal} → eta-of limit cap s out room .0 ≡ refused-after n e → ⊥
-eta-never-refused limit cap s out room a q c e = read (rw e at (eta-means limit cap s out room)) a q c
+eta-never-refused limit cap s out room {t} a q c e = read (rw e at (eta-means limit cap s out room))
   where
-    ended : {t : Term} {n : ℕ} {e : Refusal} → EtaEnds limit t (refused-after n e) → ⊥
-    ended x = elim x [ ]
+    no-end : {t : Term} {n : ℕ} {e : Refusal} → EtaEnds limit t (refused-after n e) → ⊥
+    no-end x = elim x [ ]
 
-    read : {n : ℕ} {e : Refusal} {w z : List ℕ} {t : Term} → Answers (cap-allowed cap) cap s out room (EtaEnds limit) (refused-after n e) w z
-        → cap-allowed cap ≡ true → suffice cap out room ≡ true → checked cap s ≡ given t → ⊥
-    read (out-of-bounds p) a q c = true≢false (sym a ∙ p)
-    read (room-lacking p r) a q c = true≢false (sym q ∙ r)
-    read (input-refused p r x) a q c = let never : _≡_ {A = ℕ} 0 1 = cc in omega arith
-    read (run-refused b x) a q c = ended x
+    read : {n : ℕ} {e : Refusal} {w z : List ℕ} → EtaReduces limit cap s out room (refused-after n e) w z → ⊥
+    read (out-of-bounds p) = true≢false (sym a ∙ p)
+    read (room-lacking p r) = true≢false (sym q ∙ r)
+    read (input-refused p r x) = let never : _≡_ {A = ℕ} 0 1 = cc in omega arith
+    read (run-refused x) = no-end (x .ends)
 
 -- A PLACE IS LEFT exactly where a step is
 abbrev Steps : Term → Type 0
 Steps t = (u : Term) × EtaStep t u
 
-root-steps : (t : Term) (x : Option Term) → eta-step t ≡ x → (rest : Bool) → (is-some x || rest) ≡ true → (rest ≡ true → Steps t) → Steps t
+root-steps : (t : Term) (x : Option Term) → eta-step t ≡ x → (rest : Bool) → (is-some x || rest) ≡ true
+    → (rest ≡ true → Steps t) → Steps t
 root-steps t none e rest h go = go h
 root-steps t (some u) e rest h go = (u, at-root e)
 
-left-steps : (l r : Term) (x : Bool) → (x || has-place r) ≡ true → (x ≡ true → Steps l) → (has-place r ≡ true → Steps r) → Steps (app l r)
+left-steps : (l r : Term) (x : Bool) → (x || has-place r) ≡ true → (x ≡ true → Steps l)
+    → (has-place r ≡ true → Steps r) → Steps (app l r)
 left-steps l r true h in-l in-r = let (m, k) = in-l refl in (app m r, in-left k)
 left-steps l r false h in-l in-r = let (m, k) = in-r h in (app l m, in-right k)
 
@@ -88,7 +86,8 @@ steps-place (in-left {l = l} {r = r} s) h = steps-place s (neither (has-place l)
 steps-place (in-right {l = l} {r = r} s) h = steps-place s (neither (has-place l) (has-place r) h .1)
 
 -- FINISHED EXACTLY WHEN NO PLACE IS LEFT; and with no limit, always
-pub eta-finished-so : (limit : ℕ) (t : Term) {n : ℕ} {u : Term} → eta limit t ≡ finished n u → EtaSteps n t u × (has-place u ≡ false)
+pub eta-finished-so : (limit : ℕ) (t : Term) {n : ℕ} {u : Term} → eta limit t ≡ finished n u
+    → EtaSteps n t u × (has-place u ≡ false)
 eta-finished-so limit t e = read (rw e at (eta-ends limit t))
   where
     read : {n : ℕ} {u : Term} → EtaEnds limit t (finished n u) → EtaSteps n t u × (has-place u ≡ false)
@@ -98,5 +97,6 @@ pub eta-unfinished-so : (limit : ℕ) (t : Term) {n : ℕ} {u : Term} → eta li
     → EtaSteps n t u × (has-place u ≡ true) × (n ≡ limit) × (0 < limit)
 eta-unfinished-so limit t e = read (rw e at (eta-ends limit t))
   where
-    read : {n : ℕ} {u : Term} → EtaEnds limit t (unfinished n u) → EtaSteps n t u × (has-place u ≡ true) × (n ≡ limit) × (0 < limit)
+    read : {n : ℕ} {u : Term} → EtaEnds limit t (unfinished n u)
+        → EtaSteps n t u × (has-place u ≡ true) × (n ≡ limit) × (0 < limit)
     read (eta-unfinished l p k) = (p, k, refl, l)

@@ -10,7 +10,8 @@ use Rattle.finality.specs.Beta.{Many, done, next}
 use Rattle.finality.proofs.Reductions.{many-trans, many-map}
 use Rattle.calculus.specs.Orders.{Order, CBN, HSP, CBV, APP, NOR, HNO, HAP, enters, step}
 use Rattle.calculus.specs.Traits.{spine, eager, hybrid, late, NotLam, app-not-lam}
-use Rattle.finality.specs.Sestoft.{Big, big-var, big-whole, big-body, big-name, big-value, big-head, big-pair, big-hybrid}
+use Rattle.finality.specs.Sestoft.{Big, big-var, big-whole, big-body, big-name, big-value, big-head, big-pair}
+use Rattle.finality.specs.Sestoft.{big-hybrid}
 use Rattle.calculus.proofs.NextStep.{Unless, Stuck}
 use Rattle.calculus.proofs.NextStep.{Goes}
 use Rattle.calculus.proofs.NextStep.{Next, at-spine, at-early, at-here, at-left, at-late, nowhere, next-step}

@@ -7,7 +7,8 @@ use Rattle.calculus.specs.Term.{Term, lam, app, nodes}
 use Rattle.calculus.specs.Substitution.{occurs}
 use Rattle.calculus.specs.Orders.{Order, step}
 use Rattle.calculus.proofs.Growth.{nodes-contract}
-use Rattle.finality.specs.Beta.{Beta, beta, in-lam, in-left, in-right, Contracts, right-here, below, on-the-left, on-the-right}
+use Rattle.finality.specs.Beta.{Beta, beta, in-lam, in-left, in-right, Contracts, right-here, below, on-the-left}
+use Rattle.finality.specs.Beta.{on-the-right}
 use Rattle.finality.proofs.Sound.{step-is-beta}
 
 -- a contraction is one of some redex
@@ -18,7 +19,8 @@ contracted (in-left s) = let (b, a, c) = contracted s in (b, a, on-the-left c)
 contracted (in-right s) = let (b, a, c) = contracted s in (b, a, on-the-right c)
 
 -- wherever it lies, with what is taken away written on the left: k + a + 2 go and k a come
-pub growth : {b a t u : Term} → Contracts b a t u → nodes u + (occurs 0 b + nodes a + 2) ≡ nodes t + occurs 0 b * nodes a
+pub growth : {b a t u : Term} → Contracts b a t u
+    → nodes u + (occurs 0 b + nodes a + 2) ≡ nodes t + occurs 0 b * nodes a
 unfolding nodes
 growth {b} {a} right-here = nodes-contract b a
 growth (below c) = omega (arith, growth c)

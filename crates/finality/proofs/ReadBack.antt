@@ -14,7 +14,8 @@ use Rattle.calculus.specs.Bytes.{encode}
 use Rattle.calculus.specs.Queries.{has-free-variables}
 use Rattle.calculus.specs.Reading.{Notation, de-bruijn, classic}
 use Rattle.calculus.specs.Writing.{write-text}
-use Rattle.calculus.specs.Outcomes.{checked, query-of, nodes-of, has-free-variables-of, laid-over, cleared, stored, if-it-fits}
+use Rattle.calculus.specs.Outcomes.{checked, query-of, nodes-of, has-free-variables-of, laid-over, cleared, stored}
+use Rattle.calculus.specs.Outcomes.{if-it-fits}
 use Rattle.calculus.specs.Outcomes.{cap-allowed, suffice, print-of, parse-of}
 use Rattle.calculus.proofs.Tests.{in-interval}
 use Rattle.calculus.proofs.Coding.{AllBytes, encode-decode, decoded-small}
@@ -32,7 +33,8 @@ parses-back n cap t out room readable high few allowed enough =
 
 -- what an answer of print means
 data Prints (n : Notation) (s out : List ℕ) : Answer ℕ → List ℕ → Type 0 where
-  printed : (t : Term) → checked most-nodes s ≡ given t → Prints n s out (given (length (write-text n t))) (laid-over (write-text n t) out)
+  printed : (t : Term) → checked most-nodes s ≡ given t
+      → Prints n s out (given (length (write-text n t))) (laid-over (write-text n t) out)
   no-print : {e : Refusal} → Prints n s out (refused e) out
 
 print-means : (n : Notation) (s out : List ℕ) → Prints n s out (print-of n s out .0) (print-of n s out .1)
@@ -46,7 +48,8 @@ print-means n s out = on-input (checked most-nodes s) refl
 
     on-input : (x : Answer Term) → checked most-nodes s ≡ x
         → Prints n s out (stored (x then (λ t. if-it-fits out (write-text n t))) out .0) (stored (x then (λ t. if-it-fits out (write-text n t))) out .1)
-    on-input (given t) e = by-fit t e (leb (length (write-text n t)) (length out)) (output-too-short (length (write-text n t)))
+    on-input (given t) e =
+        by-fit t e (leb (length (write-text n t)) (length out)) (output-too-short (length (write-text n t)))
     on-input (refused r) e = no-print
 
 -- the term whose text was printed, and the text
@@ -55,11 +58,13 @@ record SaysPrinted (n : Notation) (s : List ℕ) (k : ℕ) (left : List ℕ) : T
   input : checked most-nodes s ≡ given term
   text-left : take k left ≡ write-text n term
 
-says-printed : {n : Notation} {s out : List ℕ} {k : ℕ} {left : List ℕ} → Prints n s out (given k) left → SaysPrinted n s k left
+says-printed : {n : Notation} {s out : List ℕ} {k : ℕ} {left : List ℕ} → Prints n s out (given k) left
+    → SaysPrinted n s k left
 says-printed {n} (printed t e) = record { term = t; input = e; text-left = take-append-seam (write-text n t) _ }
 
 -- an answer to a query of bytes that decode
-asked : {A : Type 0} (ask : Term → A) (s : List ℕ) {t : Term} {a : A} → checked most-nodes s ≡ given t → query-of ask s ≡ given a → ask t ≡ a
+asked : {A : Type 0} (ask : Term → A) (s : List ℕ) {t : Term} {a : A} → checked most-nodes s ≡ given t
+    → query-of ask s ≡ given a → ask t ≡ a
 unfolding query-of
 asked ask s e q = inside (rw e at q)
   where

@@ -14,4 +14,5 @@ one-outcome c r s a b = a ∙ sym b
 -- so too where the statement of reduce is told by steps
 pub one-reduction : (limit cap : ℕ) (s out room : List ℕ) (o : Order) (r q : Outcome (Run ℕ))
     → Reduces limit cap s out room o (r .0) (r .1) (r .2) → Reduces limit cap s out room o (q .0) (q .1) (q .2) → r ≡ q
-one-reduction limit cap s out room o r q a b = sym (means-reduce limit cap s out room o a) ∙ means-reduce limit cap s out room o b
+one-reduction limit cap s out room o r q a b =
+    sym (means-reduce limit cap s out room o a) ∙ means-reduce limit cap s out room o b

@@ -12,7 +12,8 @@ use Rattle.calculus.specs.Traits.{spine, eager, hybrid, late, NotLam}
 use Rattle.calculus.proofs.NextStep.{Unless, Stuck, Goes}
 use Rattle.calculus.proofs.NextStep.{Next, at-spine, at-early, at-here, at-left, at-late, nowhere, step-next}
 use Rattle.calculus.proofs.NextStep.{NextBody, at-body, no-body, body-next}
-use Rattle.finality.specs.Sestoft.{Big, big-var, big-whole, big-body, big-name, big-value, big-head, big-pair, big-hybrid}
+use Rattle.finality.specs.Sestoft.{Big, big-var, big-whole, big-body, big-name, big-value, big-head, big-pair}
+use Rattle.finality.specs.Sestoft.{big-hybrid}
 use Rattle.finality.proofs.Finishing.{big-finishes}
 use Rattle.finality.proofs.Finishing.{true-or-false, clash, not-lam, hybrid-late, stuck-var, keeps}
 use Rattle.finality.specs.Finished.{Finished}

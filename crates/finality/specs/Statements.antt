@@ -7,7 +7,8 @@ use Rattle.calculus.specs.Refusal.{Answer}
 use Rattle.calculus.specs.Orders.{Order}
 use Rattle.calculus.specs.Runs.{Run}
 use Rattle.calculus.specs.Reading.{Notation}
-use Rattle.calculus.specs.Outcomes.{Outcome, nodes-of, height-of, max-depth-of, has-free-variables-of, is-supercombinator-of}
+use Rattle.calculus.specs.Outcomes.{Outcome, nodes-of, height-of, max-depth-of, has-free-variables-of}
+use Rattle.calculus.specs.Outcomes.{is-supercombinator-of}
 use Rattle.calculus.specs.Outcomes.{max-free-index-of, equality-of, print-of, parse-of, apply-of, eta-of, reduce-of}
 use Rattle.calculus.specs.Program.{program-of}
 
