@@ -56,7 +56,11 @@ term-first (var i) (suc deep) h rest =
     rw (le-leb 8 (length (digits 7 i ++ rest)) (omega arith)) (ap (λ j. found (var j) rest) (number-digits 7 i))
 term-first (lam b) (suc deep) h rest = rw (term-first b deep (omega arith) rest)
 term-first (app l r) (suc deep) h rest =
-    rw (append-assoc (encode l) (encode r) rest, term-first l deep (omega arith) (encode r ++ rest), term-first r deep (omega arith) rest)
+    rw (
+      append-assoc (encode l) (encode r) rest,
+      term-first l deep (omega arith) (encode r ++ rest),
+      term-first r deep (omega arith) rest,
+    )
 
 height-bytes : (t : Term) → height t ≤ length (encode t)
 unfolding height encode digits
@@ -82,7 +86,8 @@ unfolding encode
 reads-variable bs h false e = breaks-off
 reads-variable bs h true e =
     let eight : length (take 8 bs) ≡ 8 = length-take-le 8 bs (leb-true 8 (length bs) e) in
-    reads (ap (λ x. 1 ∷ x) (sym (take-append-drop 8 bs) ∙ ap (λ x. x ++ drop 8 bs) (sym (digits-number 7 (take 8 bs) (bytes-take 8 bs h) eight))))
+    let index = digits-number 7 (take 8 bs) (bytes-take 8 bs h) eight in
+    reads (ap (λ x. 1 ∷ x) (sym (take-append-drop 8 bs) ∙ ap (λ x. x ++ drop 8 bs) (sym index)))
 
 reads-under : {bs : List ℕ} {f : Found} → Reads bs f → Reads (2 ∷ bs) (under f)
 unfolding encode
@@ -143,7 +148,10 @@ unfolding encode greatest-index
 indices-small (var i) h = let small : i < 256 ^ 8 = digits-small 7 i (λ j. h (suc j)) in omega arith
 indices-small (lam b) h = indices-small b (λ j. h (suc j))
 indices-small (app l r) h =
-    omega (arith, indices-small l (bytes-before (encode l) (encode r) (λ j. h (suc j))), indices-small r (bytes-after (encode l) (encode r) (λ j. h (suc j))))
+    let parts : AllBytes (encode l ++ encode r) = λ j. h (suc j) in
+    let in-l = indices-small l (bytes-before (encode l) (encode r) parts) in
+    let in-r = indices-small r (bytes-after (encode l) (encode r) parts) in
+    omega arith
 
 pub decoded-small : (s : List ℕ) {t : Term} → AllBytes s → decode s ≡ given t → greatest-index t ≤ greatest-number
 decoded-small s {t} h e = indices-small t (rw (encode-decode s h e) at h)

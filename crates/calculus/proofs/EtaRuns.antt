@@ -152,14 +152,19 @@ module _ (more : ℕ → Bool) where
   -- THE PARTS: what was settled earlier stays so, since every later step was allowed
   earlier : {n m : ℕ} {t u : Term} → Progress n t m u → more m ≡ true → more n ≡ true
   earlier {n} {m} p a =
-      elim (decLt n m) [ yes l ↦ p .allowed n (omega arith) l | no l ↦ let same : n ≡ m = omega (arith, p .count) in rw same a ]
+      elim (decLt n m) [
+        | yes l ↦ p .allowed n (omega arith) l
+        | no l ↦ let same : n ≡ m = omega (arith, p .count) in rw same a
+      ]
 
   module _ (go : ℕ → Term → Counted) where
     right-comes : {n m k : ℕ} {l l′ r r′ : Term} → Progress n l m l′ → Settled m l′ → Progress m r k r′ → Settled k r′
         → Comes Settled n (app l r) (after k (app l′ r′))
     unfolding has-place
     right-comes {l′ = l′} {r = r} p s q z =
-        comes (progress-then (progress-in (λ x. app x r) (λ _ _ e. in-left e) p) (progress-in (app l′) (λ _ _ e. in-right e) q))
+        let left = progress-in (λ x. app x r) (λ _ _ e. in-left e) p in
+        let right = progress-in (app l′) (λ _ _ e. in-right e) q in
+        comes (progress-then left right)
         (λ a. rw (s (earlier q a), z a))
 
     join-right : {n m : ℕ} {l l′ r : Term} {c : Counted} → Progress n l m l′ → Settled m l′ → Comes Settled m r c

@@ -127,7 +127,10 @@ next-body o {b} (no-body u) = skipped (enters o) (step o b) u
 
 look-body : (o : Order) (b : Term) → (x : Option Term) × NextBody o b x
 look-body o b =
-    elim (looked (enters o) (step o b)) [ inl f ↦ (some (lam (f .1)), at-body (f .0) (f .2)) | inr u ↦ (none, no-body u) ]
+    elim (looked (enters o) (step o b)) [
+      | inl f ↦ (some (lam (f .1)), at-body (f .0) (f .2))
+      | inr u ↦ (none, no-body u)
+    ]
 
 pub body-next : (o : Order) (b : Term) → NextBody o b (step o (lam b))
 body-next o b = let (x, n) = look-body o b in rw (next-body o n) n

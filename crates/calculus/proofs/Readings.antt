@@ -8,7 +8,7 @@ use Rattle.calculus.specs.Refusal.{Answer, given, refused, outside-bound
 use Rattle.calculus.specs.Refusal.{invalid-character}
 use Rattle.calculus.specs.Refusal.{undefined-free-variable, too-high, empty-expression, too-many-nodes}
 use Rattle.calculus.specs.Refusal.{not-a-term, not-abs, index-too-great}
-use Rattle.calculus.specs.Bytes.{decode}
+use Rattle.calculus.specs.Bytes.{encode, decode}
 use Rattle.calculus.specs.Judging.{next-within}
 use Rattle.calculus.specs.Orders.{NOR, CBN}
 use Rattle.calculus.specs.Runs.{finished, unfinished, refused-after}
@@ -116,9 +116,9 @@ unfolding texts read-as wanted-as
 texts-read = refl
 
 -- the offset of 10, which is judged over all bytes before the height
-offsets : map decode ((1 ∷ 0 ∷ []) ∷ (3 ∷ 2 ∷ 4 ∷ []) ∷ (1 ∷ 5 ∷ 0 ∷ 0 ∷ 0 ∷ 0 ∷ 0 ∷ 0 ∷ 0 ∷ 2 ∷ []) ∷ replicate 600 2 ∷ [] ∷ [])
+offsets : map decode ((1 ∷ 0 ∷ []) ∷ (3 ∷ 2 ∷ 4 ∷ []) ∷ (encode (var 5) ++ (2 ∷ [])) ∷ replicate 600 2 ∷ [] ∷ [])
     ≡ map (λ offset. refused (not-a-term offset)) (0 ∷ 2 ∷ 9 ∷ 600 ∷ 0 ∷ [])
-unfolding decode
+unfolding decode encode
 offsets = refl
 
 -- one next term may offend all three bounds: 12 comes first, then 7, then 9
@@ -132,21 +132,27 @@ limit-zero : reduce-of NOR 0 1 (2 ∷ []) [] (7 ∷ []) ≡ (refused-after 0 out
 unfolding reduce-of
 limit-zero = refl
 
-no-room : reduce-of NOR 1 1 (2 ∷ []) (replicate 9 7) (replicate 7 7) ≡ (refused-after 0 too-little-room, replicate 9 7, replicate 7 7)
+no-room : reduce-of NOR 1 1 (2 ∷ []) (replicate 9 7) (replicate 7 7)
+    ≡ (refused-after 0 too-little-room, replicate 9 7, replicate 7 7)
 unfolding reduce-of
 no-room = refl
 
 -- a refused input clears the room and nothing beyond it
-room-cleared : eta-of 0 1 (2 ∷ []) (replicate 9 7) (replicate 10 7) ≡ (refused-after 0 (not-a-term 1), replicate 9 7, replicate 8 0 ++ (7 ∷ 7 ∷ []))
+room-cleared : eta-of 0 1 (2 ∷ []) (replicate 9 7) (replicate 10 7)
+    ≡ (refused-after 0 (not-a-term 1), replicate 9 7, replicate 8 0 ++ (7 ∷ 7 ∷ []))
 unfolding eta-of
 room-cleared = refl
 
 -- texts as they are written: digits in brackets are upper case; one name for two variables where m + j is held
-written-de-bruijn : write-text de-bruijn (lam (app (app (var 1) (lam (app (var 31) (var 10)))) (app (var 0) (var 15)))) ≡ text "λ1(λ[1F]A)([0]F)"
+written-de-bruijn : write-text de-bruijn
+    (lam (app (app (var 1) (lam (app (var 31) (var 10)))) (app (var 0) (var 15))))
+    ≡ text "λ1(λ[1F]A)([0]F)"
 unfolding write-text text
 written-de-bruijn = refl
 
-written-classic : write-text classic (lam (app (app (var 1) (lam (app (var 2) (var 5)))) (app (var 0) (lam (var 1))))) ≡ text "λa.a (λb.a e) (undefined (λb.b))"
+written-classic : write-text classic
+    (lam (app (app (var 1) (lam (app (var 2) (var 5)))) (app (var 0) (lam (var 1)))))
+    ≡ text "λa.a (λb.a e) (undefined (λb.b))"
 unfolding write-text text
 written-classic = refl
 
@@ -154,7 +160,8 @@ names : map name-text (0 ∷ 25 ∷ 26 ∷ 701 ∷ 702 ∷ []) ≡ map text ("a"
 unfolding name-text text
 names = refl
 
-held : write-text classic (app (lam (var 1)) (app (var last) (var (last - 1)))) ≡ text "(λa.a) (gkgwbylwrxtlpo gkgwbylwrxtlpo)"
+held : write-text classic (app (lam (var 1)) (app (var last) (var (last - 1))))
+    ≡ text "(λa.a) (gkgwbylwrxtlpo gkgwbylwrxtlpo)"
 unfolding write-text text
 held = refl
 

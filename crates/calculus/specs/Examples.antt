@@ -103,7 +103,8 @@ sixteen =
     ∷ parse classic "\\a.\\b.a b" gives answers (given (lam (lam (app (var 2) (var 1)))))
     -- P8: \3(\61)(\1(\71))
     ∷ apply "\\\\42(\\13)" "\\51" gives
-    answers (given (lam (app (app (var 3) (lam (app (var 6) (var 1)))) (lam (app (var 1) (lam (app (var 7) (var 1))))))))
+    answers
+    (given (lam (app (app (var 3) (lam (app (var 6) (var 1)))) (lam (app (var 1) (lam (app (var 7) (var 1))))))))
     -- P9
     ∷ reduce NOR 3 "(\\11)(\\11)" gives runs (unfinished 3 (app half half))
     -- P10

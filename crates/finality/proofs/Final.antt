@@ -49,7 +49,8 @@ pub record SaysFinished (o : Order) (limit cap : ℕ) (s : List ℕ) (n size : �
 
 module _ (o : Order) (limit cap : ℕ) (s out room : List ℕ) where
   on-terms : {n size : ℕ} {left : List ℕ} (t u : Term) → checked cap s ≡ given t
-      → Ends (judge cap) o limit t (finished n u) → size ≡ length (encode u) → take size left ≡ encode u → SaysFinished o limit cap s n size left
+      → Ends (judge cap) o limit t (finished n u) → size ≡ length (encode u) → take size left ≡ encode u
+      → SaysFinished o limit cap s n size left
   on-terms t u c (ends-finished h p k) l b =
       record {
         from = t;

@@ -27,15 +27,39 @@ spine-plain = elim [ CBN ↦ refl | HSP ↦ refl | CBV ↦ refl | APP ↦ refl |
 
 plain-late : (o : Order) → hybrid o ≡ false → late o ≡ false
 plain-late =
-    elim [ CBN ↦ λ _. refl | HSP ↦ λ _. refl | CBV ↦ λ _. refl | APP ↦ λ _. refl | NOR ↦ λ e. e | HNO ↦ λ e. e | HAP ↦ λ _. refl ]
+    elim [
+      | CBN ↦ λ _. refl
+      | HSP ↦ λ _. refl
+      | CBV ↦ λ _. refl
+      | APP ↦ λ _. refl
+      | NOR ↦ λ e. e
+      | HNO ↦ λ e. e
+      | HAP ↦ λ _. refl
+    ]
 
 late-lazy : (o : Order) → late o ≡ true → eager o ≡ false
 late-lazy =
-    elim [ CBN ↦ λ _. refl | HSP ↦ λ _. refl | CBV ↦ λ e. sym e | APP ↦ λ e. sym e | NOR ↦ λ _. refl | HNO ↦ λ _. refl | HAP ↦ λ e. sym e ]
+    elim [
+      | CBN ↦ λ _. refl
+      | HSP ↦ λ _. refl
+      | CBV ↦ λ e. sym e
+      | APP ↦ λ e. sym e
+      | NOR ↦ λ _. refl
+      | HNO ↦ λ _. refl
+      | HAP ↦ λ e. sym e
+    ]
 
 pub hybrid-late : (o : Order) → hybrid o ≡ true → eager o ≡ false → late o ≡ true
 hybrid-late =
-    elim [ CBN ↦ λ e _. e | HSP ↦ λ e _. e | CBV ↦ λ e _. e | APP ↦ λ e _. e | NOR ↦ λ _ _. refl | HNO ↦ λ _ _. refl | HAP ↦ λ _ e. sym e ]
+    elim [
+      | CBN ↦ λ e _. e
+      | HSP ↦ λ e _. e
+      | CBV ↦ λ e _. e
+      | APP ↦ λ e _. e
+      | NOR ↦ λ _ _. refl
+      | HNO ↦ λ _ _. refl
+      | HAP ↦ λ _ e. sym e
+    ]
 
 pub true-or-false : (b : Bool) → (b ≡ true) ⊎ (b ≡ false)
 true-or-false true = inl refl
@@ -63,17 +87,20 @@ keeps-body : {o : Order} {b : Term} {u : Term} → Keeps o b → NextBody (spine
 keeps-body {o} ih (no-body h) (at-body {c} p e) =
     (next-body (spine o) (no-body (λ q. ih c (h q) e .0)), λ n. absurd (not-lam n))
 
+never-late : (o : Order) {x : Option Term} → Unless (late (spine o)) x
+never-late o = unless (plain-late (spine o) (spine-plain o))
+
 keeps-app : {o : Order} {l r u : Term} → Keeps o l → Keeps o r → Next (spine o) l r none → Next o l r (some u)
     → Stuck (spine o) u × (NotLam (app l r) → NotLam u)
 keeps-app {o} ih-l ih-r (nowhere h u n v w) (at-spine e) = absurd (clash (rw spine-spine at h) e)
 keeps-app {o} ih-l ih-r (nowhere h u n v w) (at-early {s} _ p e) =
-    (next-step (spine o) (nowhere h (λ q. ih-r s (u q) e .0) n v (unless (plain-late (spine o) (spine-plain o)))), λ _. app-not-lam)
+    (next-step (spine o) (nowhere h (λ q. ih-r s (u q) e .0) n v (never-late o)), λ _. app-not-lam)
 keeps-app {o} ih-l ih-r (nowhere h u n v w) (at-here _ _ e) = absurd (not-lam (rw e at n))
 keeps-app {o} ih-l ih-r (nowhere h u n v w) (at-left {m} g _ _ _ e) =
     let (k, j) = ih-l m g e in
     (next-step (spine o) (nowhere (rw spine-spine k) u (j n) (unless (spine-plain o)) w), λ _. app-not-lam)
 keeps-app {o} ih-l ih-r (nowhere h u n v w) (at-late {s} _ _ _ _ p e) =
-    (next-step (spine o) (nowhere h (λ q. ih-r s (u q) e .0) n v (unless (plain-late (spine o) (spine-plain o)))), λ _. app-not-lam)
+    (next-step (spine o) (nowhere h (λ q. ih-r s (u q) e .0) n v (never-late o)), λ _. app-not-lam)
 
 pub keeps : (o : Order) (t : Term) → Keeps o t
 keeps o (var i) u h e = absurd (clash (stuck-var o i) e)
@@ -117,7 +144,8 @@ big-finishes {o} (big-value {r} p f a b) =
     let (s, k) = big-finishes f in
     let (y, i) = big-finishes a in
     let (z, j) = big-finishes b in
-    (many-trans (reach-spine o r s) (many-trans (reach-early o k p y) (next (next-step o (at-here k (λ _. i) refl)) z)), j)
+    let contracts = next (next-step o (at-here k (λ _. i) refl)) z in
+    (many-trans (reach-spine o r s) (many-trans (reach-early o k p y) contracts), j)
 big-finishes {o} (big-head {r} p q f n) =
     let (s, k) = big-finishes f in
     (reach-spine o r s, next-step o (nowhere k (unless q) n (unless p) (unless (plain-late o p))))
@@ -132,8 +160,10 @@ big-finishes {o} (big-hybrid {r} p f n g a) =
     elim (true-or-false (eager o)) [
       | inl q ↦
           let (z, j, d) = reach-left o k (λ _. i) n p x in
-          (many-trans (reach-spine o r s) (many-trans (reach-early o k q y) z), next-step o (nowhere j (λ _. i) d (λ _. h) (λ _. i)))
+          let stops = next-step o (nowhere j (λ _. i) d (λ _. h) (λ _. i)) in
+          (many-trans (reach-spine o r s) (many-trans (reach-early o k q y) z), stops)
       | inr q ↦
           let (z, j, d) = reach-left o {r = r} k (unless q) n p x in
-          (many-trans (reach-spine o r s) (many-trans z (reach-late o j d h (hybrid-late o p q) y)), next-step o (nowhere j (λ _. i) d (λ _. h) (λ _. i)))
+          let stops = next-step o (nowhere j (λ _. i) d (λ _. h) (λ _. i)) in
+          (many-trans (reach-spine o r s) (many-trans z (reach-late o j d h (hybrid-late o p q) y)), stops)
     ]

@@ -29,5 +29,6 @@ growth (on-the-right c) = omega (arith, growth c)
 
 -- and so for each step of each order
 pub step-growth : (o : Order) {t u : Term} → step o t ≡ some u
-    → (b : Term) × (a : Term) × Contracts b a t u × (nodes u + (occurs 0 b + nodes a + 2) ≡ nodes t + occurs 0 b * nodes a)
+    → (b : Term) × (a : Term) × Contracts b a t u
+    × (nodes u + (occurs 0 b + nodes a + 2) ≡ nodes t + occurs 0 b * nodes a)
 step-growth o e = let (b, a, c) = contracted (step-is-beta o e) in (b, a, c, growth c)

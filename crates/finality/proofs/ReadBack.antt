@@ -16,7 +16,7 @@ use Rattle.calculus.specs.Reading.{Notation, de-bruijn, classic}
 use Rattle.calculus.specs.Writing.{write-text}
 use Rattle.calculus.specs.Outcomes.{checked, query-of, nodes-of, has-free-variables-of, laid-over, cleared, stored}
 use Rattle.calculus.specs.Outcomes.{if-it-fits}
-use Rattle.calculus.specs.Outcomes.{cap-allowed, suffice, print-of, parse-of}
+use Rattle.calculus.specs.Outcomes.{Outcome, cap-allowed, suffice, print-of, parse-of}
 use Rattle.calculus.proofs.Tests.{in-interval}
 use Rattle.calculus.proofs.Coding.{AllBytes, encode-decode, decoded-small}
 use Rattle.calculus.proofs.Judged.{checked-given}
@@ -42,12 +42,12 @@ unfolding print-of
 print-means n s out = on-input (checked most-nodes s) refl
   where
     by-fit : (t : Term) → checked most-nodes s ≡ given t → (fits : Bool) (e : Refusal)
-        → Prints n s out (stored (kept-if fits e (write-text n t)) out .0) (stored (kept-if fits e (write-text n t)) out .1)
+        → let r = stored (kept-if fits e (write-text n t)) out in Prints n s out (r .0) (r .1)
     by-fit t e true r = printed t e
     by-fit t e false r = no-print
 
     on-input : (x : Answer Term) → checked most-nodes s ≡ x
-        → Prints n s out (stored (x then (λ t. if-it-fits out (write-text n t))) out .0) (stored (x then (λ t. if-it-fits out (write-text n t))) out .1)
+        → let r = stored (x then (λ t. if-it-fits out (write-text n t))) out in Prints n s out (r .0) (r .1)
     on-input (given t) e =
         by-fit t e (leb (length (write-text n t)) (length out)) (output-too-short (length (write-text n t)))
     on-input (refused r) e = no-print
@@ -74,8 +74,12 @@ asked ask s e q = inside (rw e at q)
 -- WHATEVER IS PRINTED READS BACK AS THE SAME BYTES, under a cap that holds them, if the notation can tell the term
 module _ (s out out′ room : List ℕ) (bytes : AllBytes s) (cap m : ℕ) (few : nodes-of s ≡ given m) (holds : m ≤ cap)
     (allowed : cap-allowed cap ≡ true) (enough : suffice cap out′ room ≡ true) where
+  -- what a parse is to leave: the input's own bytes
+  abbrev Back : Outcome (Answer ℕ) → Type 0
+  Back r = r ≡ (given (length s), laid-over s out′, cleared cap room)
+
   back : (n : Notation) {k : ℕ} {left : List ℕ} (p : SaysPrinted n s k left) → Readable n 0 (p .term)
-      → parse-of n cap (take k left) out′ room ≡ (given (length s), laid-over s out′, cleared cap room)
+      → Back (parse-of n cap (take k left) out′ room)
   unfolding nodes-of
   back n p readable =
       let t : Term = p .term in
@@ -88,14 +92,14 @@ module _ (s out out′ room : List ℕ) (bytes : AllBytes s) (cap m : ℕ) (few 
 
   -- in De Bruijn's notation every term
   pub de-bruijn-back : (k : ℕ) → print-of de-bruijn s out .0 ≡ given k
-      → parse-of de-bruijn cap (take k (print-of de-bruijn s out .1)) out′ room ≡ (given (length s), laid-over s out′, cleared cap room)
+      → Back (parse-of de-bruijn cap (take k (print-of de-bruijn s out .1)) out′ room)
   de-bruijn-back k e =
       let p = says-printed (rw e at (print-means de-bruijn s out)) in
       back de-bruijn p (decoded-small s bytes (checked-given s (p .input) .0))
 
   -- in classic notation every term with neither a free variable nor index 0
   pub classic-back : has-free-variables-of s ≡ given false → (k : ℕ) → print-of classic s out .0 ≡ given k
-      → parse-of classic cap (take k (print-of classic s out .1)) out′ room ≡ (given (length s), laid-over s out′, cleared cap room)
+      → Back (parse-of classic cap (take k (print-of classic s out .1)) out′ room)
   unfolding has-free-variables-of
   classic-back closed k e =
       let p = says-printed (rw e at (print-means classic s out)) in

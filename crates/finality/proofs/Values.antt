@@ -19,12 +19,15 @@ use Rattle.finality.proofs.Finishing.{true-or-false, clash, not-lam, hy
 use Rattle.finality.specs.Finished.{Finished}
 
 -- what it says of L R, or of an abstraction, that no step is left
-stuck-app : (o : Order) (l r : Term) → Stuck o (app l r)
-    → Stuck (spine o) l × Unless (eager o) (step o r) × NotLam l × Unless (hybrid o) (step o l) × Unless (late o) (step o r)
+abbrev Nowhere : Order → Term → Term → Type 0
+Nowhere o l r =
+    Stuck (spine o) l × Unless (eager o) (step o r) × NotLam l × Unless (hybrid o) (step o l) × Unless (late o)
+    (step o r)
+
+stuck-app : (o : Order) (l r : Term) → Stuck o (app l r) → Nowhere o l r
 stuck-app o l r k = parts (rw k at (step-next o l r))
   where
-    parts : Next o l r none
-        → Stuck (spine o) l × Unless (eager o) (step o r) × NotLam l × Unless (hybrid o) (step o l) × Unless (late o) (step o r)
+    parts : Next o l r none → Nowhere o l r
     parts (nowhere h u n v w) = (h, u, n, v, w)
 
 stuck-lam : (o : Order) (b : Term) → Stuck o (lam b) → Unless (enters o) (step o b)
@@ -46,7 +49,11 @@ stuck-big o (app l r) k =
     let f = stuck-big (spine o) l h in
     elim (true-or-false (hybrid o)) [
       | inl p ↦ big-hybrid p f n (stuck-big o l (v p)) (stuck-big o r (stuck-argument o p u w))
-      | inr p ↦ elim (true-or-false (eager o)) [ inl q ↦ big-pair p q f n (stuck-big o r (u q)) | inr q ↦ big-head p q f n ]
+      | inr p ↦
+          elim (true-or-false (eager o)) [
+            | inl q ↦ big-pair p q f n (stuck-big o r (u q))
+            | inr q ↦ big-head p q f n
+          ]
     ]
 
 -- and has no other

@@ -10,7 +10,8 @@ use Rattle.calculus.specs.Bytes.{encode}
 use Rattle.calculus.specs.Runs.{Run, finished, unfinished, refused-after}
 use Rattle.calculus.specs.Outcomes.{checked, suffice, laid-over, cleared}
 
--- of a call with bounds that are allowed or not, a cap, an input, an output and a work room, by how a run from a term may end
+-- of a call with bounds that are allowed or not, a cap, an input, an output and a work room, by how a run from a term
+-- may end
 module _ (allowed : Bool) (cap : ℕ) (s out room : List ℕ) (Ends : Term → Run Term → Type 0) where
   -- neither 1 nor 2 holds, the input is the bytes of a term within the bounds, and its run ends so
   pub record Runs (r : Run Term) : Type 0 where
