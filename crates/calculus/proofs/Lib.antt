@@ -6,6 +6,7 @@ pub mod Growth
 pub mod NextStep
 pub mod Equality
 pub mod Coding
+pub mod Sizes
 pub mod Running
 pub mod Judged
 pub mod Lowering

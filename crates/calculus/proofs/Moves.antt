@@ -1,12 +1,13 @@
 -- The next word moves the reading place forward, and an invalid character is one of the text.
-use Prim.Native.Nat.{ℕ, zero, suc, _+_, _≤_, _<_, _^_}
+use Prim.Native.Nat.{ℕ, zero, suc, _+_, _≤_, _<_}
 use mathlib.Core.Path.{_≡_, refl, ap, _∙_}
 use mathlib.Core.Bool.{Bool, true, false, cond}
 use mathlib.Core.List.{List, [], _∷_, _++_}
 use mathlib.Core.Option.{Option, none, some}
 use native.Mathlib.Omega.{arith}
-use lib.Dec.{ltb, eqb}
+use lib.Dec.{leb, eqb}
 use lib.ListN.{length, length-append}
+use Rattle.calculus.specs.Bounds.{greatest-number}
 use Rattle.calculus.specs.Characters.{white}
 use Rattle.calculus.specs.Refusal.{Refusal, invalid-character, Answer}
 use Rattle.calculus.specs.Words.{Word, Next, ended, word, invalid, start, rest, invalid-in, on-next, words-from}
@@ -79,7 +80,7 @@ module _ (all : List ℕ) (o : ℕ) (os : List ℕ) (bracket : Tail (o ∷ os) a
   moves-glyph : (g : db.Glyph) (i : Option ℕ) (c : ℕ) (cs : List ℕ) → Tail (c ∷ cs) all
       → (go : Option ℕ → Next) → ((j : Option ℕ) → Moves all (go j)) → Moves all (db.on-glyph g i (c ∷ cs) cs go)
   moves-glyph (db.digit d) i c cs t go m =
-      either (ltb (db.lengthened i d) (2 ^ 64)) (m (some (db.lengthened i d))) (to-an-invalid t)
+      either (leb (db.lengthened i d) greatest-number) (m (some (db.lengthened i d))) (to-an-invalid t)
   moves-glyph db.end-bracket i c cs t go m = moves-ended i c cs t
   moves-glyph db.lambda i c cs t go m = to-an-invalid t
   moves-glyph db.left i c cs t go m = to-an-invalid t

@@ -1,5 +1,5 @@
 -- The bytes of a term, and the term of any bytes, or the offset of refusal 10.
-use Prim.Native.Nat.{ℕ, zero, suc, _+_, _-_, _/_, _%_}
+use Prim.Native.Nat.{ℕ, zero, suc, _-_, _/_, _%_}
 use mathlib.Core.Bool.{Bool, true, false}
 use mathlib.Core.List.{List, [], _∷_, _++_}
 use lib.Dec.{leb}
@@ -8,8 +8,7 @@ use Rattle.calculus.specs.Term.{Term, var, lam, app}
 use Rattle.calculus.specs.Numbers.{number}
 use Rattle.calculus.specs.Refusal.{Answer, given, refused, not-a-term}
 
--- n in k + 1 bytes, low byte first; the last place has all that is left of n, which is a byte where n is below 256 ^ (k
--- + 1)
+-- n in k + 1 bytes, low byte first; the last has all that is left, which is a byte where n is below 256 ^ (k + 1)
 unfoldable pub digits : ℕ → ℕ → List ℕ
 digits zero n = n ∷ []
 digits (suc k) n = n % 256 ∷ digits k (n / 256)
@@ -20,12 +19,6 @@ unfolding digits
 encode (var i) = 1 ∷ digits 7 i
 encode (lam b) = 2 ∷ encode b
 encode (app l r) = 3 ∷ (encode l ++ encode r)
-
--- how many bytes a term takes
-unfoldable pub size : Term → ℕ
-size (var i) = 9
-size (lam b) = suc (size b)
-size (app l r) = suc (size l + size r)
 
 -- a term and the bytes that remain after it, or those that remain where no term is
 pub data Found : Type 0 where

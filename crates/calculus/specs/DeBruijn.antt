@@ -1,10 +1,11 @@
 -- The next word of a text in De Bruijn's notation.
-use Prim.Native.Nat.{ℕ, _+_, _-_, _*_, _^_}
+use Prim.Native.Nat.{ℕ, _+_, _-_, _*_}
 use mathlib.Core.Bool.{Bool, true, false, _||_, cond}
 use mathlib.Core.List.{List, [], _∷_}
 use mathlib.Core.Option.{Option, none, some}
-use lib.Dec.{ltb, eqb}
+use lib.Dec.{leb, eqb}
 use Rattle.calculus.specs.Characters.{sign, white}
+use Rattle.calculus.specs.Bounds.{greatest-number}
 use Rattle.calculus.specs.Numbers.{between}
 use Rattle.calculus.specs.Words.{Next, ended, word, invalid, binder, opening, closing, number, rest}
 
@@ -36,7 +37,7 @@ index-ended (some i) at cs = word (number i) cs
 
 -- a digit is taken while the index fits 64 bits
 abbrev pub digit-taken : ℕ → List ℕ → (Option ℕ → Next) → Next
-digit-taken i at go = cond (ltb i (2 ^ 64)) (go (some i)) (invalid at)
+digit-taken i at go = cond (leb i greatest-number) (go (some i)) (invalid at)
 
 -- inside brackets, at a character, with the index of the digits so far
 abbrev pub on-glyph : Glyph → Option ℕ → List ℕ → List ℕ → (Option ℕ → Next) → Next

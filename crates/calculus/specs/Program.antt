@@ -53,8 +53,7 @@ past b (c ∷ cs) = cond (eqb b c) (some cs) none
 abbrev pub limit-in : List ℕ → Option ℕ
 limit-in ds = cond (between 1 7 (length ds)) (some (number 10 (reverse (map (λ c. c - 48) ds)))) none
 
--- THE FIRST LINE: an order's three letters, a space, a limit, a space, the notation, a line feed; none if it is
--- malformed
+-- THE FIRST LINE: an order's three letters, a space, a limit, a space, the notation, a line feed; or it is malformed
 unfoldable pub first-line : List ℕ → Option Job
 unfolding look-up order-words notation-words start rest number
 first-line s = do

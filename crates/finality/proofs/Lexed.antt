@@ -1,5 +1,5 @@
 -- Each piece of a written text is the next word of what remains.
-use Prim.Native.Nat.{ℕ, zero, suc, _+_, _*_, _-_, _/_, _%_, _^_, _<_, pow·suc}
+use Prim.Native.Nat.{ℕ, zero, suc, _+_, _*_, _-_, _/_, _%_, _^_, _≤_, _<_, pow·suc}
 use mathlib.Core.Path.{_≡_, refl, ap, _∙_}
 use mathlib.Core.Bool.{Bool, true, false, cond}
 use mathlib.Core.List.{List, [], _∷_, _++_, append-assoc}
@@ -8,6 +8,7 @@ use native.Mathlib.Omega.{arith}
 use native.Mathlib.Decide.{decLt}
 use lib.Dec.{ltb}
 use lib.ListN.{length, length-append}
+use Rattle.calculus.specs.Bounds.{greatest-number}
 use Rattle.calculus.specs.Numbers.{figure, numeral}
 use Rattle.calculus.specs.Characters.{sign, white}
 use Rattle.calculus.specs.Words.{word, binder, opening, closing, number, name, start, rest}
@@ -32,10 +33,10 @@ unfolding table
 figure-not-white = by-table (λ d. white (figure d)) (λ d. false) 16 refl
 
 -- one more digit of an index, while it fits
-digit-read : (at : List ℕ) (i : Option ℕ) (d : ℕ) → d < 16 → db.lengthened i d < 2 ^ 64 → (cs : List ℕ)
+digit-read : (at : List ℕ) (i : Option ℕ) (d : ℕ) → d < 16 → db.lengthened i d ≤ greatest-number → (cs : List ℕ)
     → bracketed at i (figure d ∷ cs) ≡ bracketed at (some (db.lengthened i d)) cs
 unfolding bracketed
-digit-read at i d h f cs = rw (figure-glyph d h, le-leb (suc (db.lengthened i d)) (2 ^ 64) f)
+digit-read at i d h f cs = rw (figure-glyph d h, le-leb (db.lengthened i d) greatest-number f)
 
 -- an index of one digit, and of more
 digit-only : (at : List ℕ) (n i : ℕ) → i < 16 → (cs : List ℕ)
@@ -45,7 +46,7 @@ digit-only at n i small cs =
     let same : i % 16 ≡ i = omega arith in
     rw (le-leb (suc i) 16 small, same) (digit-read at none i small (omega arith) cs)
 
-numeral-read : (at : List ℕ) (n i : ℕ) → i < 16 ^ suc n → i < 2 ^ 64 → (cs : List ℕ)
+numeral-read : (at : List ℕ) (n i : ℕ) → i < 16 ^ suc n → i ≤ greatest-number → (cs : List ℕ)
     → bracketed at none (numeral 16 (suc n) i ++ cs) ≡ bracketed at (some i) cs
 unfolding numeral
 numeral-read at zero i h f cs = digit-only at zero i h cs
@@ -60,7 +61,8 @@ numeral-read at (suc n) i h f cs =
           ∙ ap (λ k. bracketed at (some k) cs) whole)
     ]
 
-next-index : (i : ℕ) → i < 2 ^ 64 → (after : List ℕ) → next-de-bruijn (index-text i ++ after) ≡ word (number i) after
+next-index : (i : ℕ) → i ≤ greatest-number → (after : List ℕ)
+    → next-de-bruijn (index-text i ++ after) ≡ word (number i) after
 unfolding index-text next-de-bruijn
 next-index i f after = by-size (interval 1 15 i)
   where
@@ -68,7 +70,7 @@ next-index i f after = by-size (interval 1 15 i)
         → next-de-bruijn (cond b (figure i ∷ []) (91 ∷ (numeral 16 16 i ++ (93 ∷ []))) ++ after) ≡ word (number i) after
     by-size (inside p q) =
         rw (rest-stops white (figure i) after (figure-not-white i (omega arith)), figure-glyph i (omega arith))
-    by-size (outside o) = rw append-assoc (numeral-read _ 15 i f f (93 ∷ after))
+    by-size (outside o) = rw append-assoc (numeral-read _ 15 i (omega arith) f (93 ∷ after))
 
 -- CLASSIC: names in lower-case letters
 data Lower : List ℕ → Type 0 where
@@ -179,7 +181,7 @@ next-binder classic d after = rw append-assoc (next-binder-name (lower-name d) (
 pub next-variable : (n : Notation) (m d i : ℕ) → Fits n d i → (after : List ℕ) → Stopped n after
     → next n (text-of-variable n m d i ++ after) ≡ word (variable-word n d i) after
 unfolding next text-of-variable variable-text
-next-variable de-bruijn m d i f after s = next-index i (omega arith) after
+next-variable de-bruijn m d i f after s = next-index i f after
 next-variable classic m d zero f after s = absurd (omega arith)
 next-variable classic m d (suc i) f after s =
     rw (le-leb (suc i) d (f .1)) (next-name (lower-name (d - suc i)) (name-nonempty (d - suc i)) after s)

@@ -16,3 +16,4 @@ pub mod RoundTrip
 pub mod ReadBack
 pub mod Unique
 pub mod Growth
+pub mod Lengths
