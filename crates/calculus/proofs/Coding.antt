@@ -7,12 +7,12 @@ use native.Mathlib.Omega.{arith}
 use native.Mathlib.Nat.{pow-suc}
 use borrow.Author.Tests.{le-leb, leb-true}
 use lib.Dec.{leb}
-use lib.ListN.{length, getD, take, drop, length-append, take-append-drop, List·getD-append}
+use lib.ListN.{length, getD, take, drop, length-append, take-append-drop}
 use lib.Seq.{getD-append-add, length-take-le}
 use Rattle.calculus.specs.Term.{Term, var, lam, app, height, greatest-index}
 use Rattle.calculus.specs.Bounds.{greatest-number}
 use Rattle.calculus.specs.Numbers.{number}
-use Rattle.calculus.specs.Refusal.{Answer, given, refused}
+use Rattle.calculus.specs.Refusal.{given}
 use Rattle.calculus.specs.Bytes.{digits, encode, Found, found, missing, variable-if, under, beside, two-parts}
 use Rattle.calculus.specs.Bytes.{of-kind, term-in, whole, decode}
 

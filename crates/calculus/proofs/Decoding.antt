@@ -8,7 +8,7 @@ use native.Mathlib.Omega.{arith}
 use lib.Dec.{leb}
 use lib.ListN.{length, drop, length-drop}
 use Rattle.calculus.specs.Term.{Term}
-use Rattle.calculus.specs.Refusal.{Answer, given, refused, not-a-term}
+use Rattle.calculus.specs.Refusal.{refused, not-a-term}
 use Rattle.calculus.specs.Bytes.{Found, found, missing, variable-if, under, beside, two-parts, of-kind, term-in}
 use Rattle.calculus.specs.Bytes.{whole, decode}
 

@@ -1,5 +1,4 @@
 -- The test of equality is that of being the same term.
-use Prim.Native.Nat.{ℕ}
 use mathlib.Core.Path.{_≡_, refl, ap, ap₂}
 use mathlib.Core.Bool.{true, false, false≢true}
 use borrow.Author.Tests.{eq-eqb, eqb-true}

@@ -2,14 +2,14 @@
 -- is left.
 use Prim.Native.Nat.{ℕ, zero, suc, _+_, _≤_, _<_}
 use mathlib.Core.Path.{_≡_, refl, sym, _∙_}
-use mathlib.Core.Bool.{Bool, true, false, not, _||_, cond, true≢false}
+use mathlib.Core.Bool.{Bool, true, false, _||_, cond, true≢false}
 use mathlib.Core.Option.{Option, none, some}
 use native.Mathlib.Omega.{arith}
 use native.Mathlib.Decide.{decLt}
 use borrow.Author.Tests.{eqb-true, eqb-false, ltb-true, ltb-false}
 use lib.Dec.{eqb, ltb}
 use Rattle.calculus.specs.Term.{Term, var, lam, app, nodes}
-use Rattle.calculus.specs.Runs.{Run, finished, unfinished}
+use Rattle.calculus.specs.Runs.{finished, unfinished}
 use Rattle.calculus.specs.Ends.{EtaStep, at-root, in-body, in-left, in-right, EtaSteps, none-made, one-more}
 use Rattle.calculus.specs.Ends.{EtaEnds, eta-finished, eta-unfinished}
 use Rattle.calculus.specs.Eta.{lower, eta-step, is-some, has-place, Counted, after, may-follow, step-if, stay-or}

@@ -2,13 +2,13 @@
 use Prim.Native.Nat.{ℕ, _≤_, _<_}
 use mathlib.Core.Path.{_≡_, refl}
 use mathlib.Core.List.{List}
-use mathlib.Core.Option.{Option, none}
+use mathlib.Core.Option.{none}
 use native.Mathlib.Omega.{arith}
 use native.Mathlib.Decide.{decLe}
 use borrow.Author.Tests.{le-leb, lt-leb}
 use Rattle.calculus.specs.Term.{Term, nodes, height, greatest-index}
 use Rattle.calculus.specs.Bounds.{most-height, greatest-number}
-use Rattle.calculus.specs.Refusal.{Refusal, Answer, given, refused, _then_, too-high, too-many-nodes}
+use Rattle.calculus.specs.Refusal.{Answer, given, refused, _then_, too-high, too-many-nodes}
 use Rattle.calculus.specs.Refusal.{index-too-great}
 use Rattle.calculus.specs.Judging.{within, next-within, refusal-in, judge}
 use Rattle.calculus.specs.Bytes.{decode}

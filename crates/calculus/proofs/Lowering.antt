@@ -1,5 +1,5 @@
 -- What lowering and one eta contraction do to nodes, height, indices and the places that are left.
-use Prim.Native.Nat.{ℕ, zero, suc, pred, _+_, _≤_, _<_, max}
+use Prim.Native.Nat.{ℕ, suc, pred, _+_, _≤_, _<_}
 use mathlib.Core.Path.{_≡_, refl, ap, ap₂, sym, _∙_}
 use mathlib.Core.Bool.{Bool, true, false, not, _||_, cond, true≢false}
 use mathlib.Core.Option.{Option, none, some}

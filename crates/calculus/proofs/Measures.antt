@@ -1,5 +1,5 @@
 -- Every term has a node and a height.
-use Prim.Native.Nat.{ℕ, _<_}
+use Prim.Native.Nat.{_<_}
 use native.Mathlib.Omega.{arith}
 use Rattle.calculus.specs.Term.{Term, var, lam, app, nodes, height}
 

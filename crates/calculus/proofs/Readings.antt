@@ -12,9 +12,9 @@ use Rattle.calculus.specs.Bytes.{encode, decode}
 use Rattle.calculus.specs.Judging.{next-within}
 use Rattle.calculus.specs.Orders.{NOR, CBN}
 use Rattle.calculus.specs.Runs.{finished, unfinished, refused-after}
-use Rattle.calculus.specs.Reading.{Notation, de-bruijn, classic, read-text}
+use Rattle.calculus.specs.Reading.{de-bruijn, classic, read-text}
 use Rattle.calculus.specs.Writing.{write-text, name-text}
-use Rattle.calculus.specs.Outcomes.{reduce-of, eta-of}
+use Rattle.calculus.specs.Outcomes.{apply-of, eta-of, reduce-of}
 use Rattle.calculus.specs.Program.{program-of}
 use Rattle.calculus.specs.Examples.{Example, _gives_, parse, apply, eta, reduce, answers, runs, call-of}
 use Rattle.calculus.specs.Examples.{wanted-of, outcome, wanted, text}
@@ -143,6 +143,12 @@ room-cleared : eta-of 0 1 (2 ∷ []) (replicate 9 7) (replicate 10 7)
 unfolding eta-of
 room-cleared = refl
 
+-- apply judges both inputs before 11
+argument-first : apply-of 1 (encode (var 1)) (1 ∷ []) (replicate 9 7) (replicate 8 7)
+    ≡ (refused (not-a-term 0), replicate 9 7, replicate 8 0)
+unfolding apply-of
+argument-first = refl
+
 -- texts as they are written: digits in brackets are upper case; one name for two variables where m + j is held
 written-de-bruijn : write-text de-bruijn
     (lam (app (app (var 1) (lam (app (var 31) (var 10)))) (app (var 0) (var 15))))
@@ -192,3 +198,12 @@ program : map (λ s. program-of (text s)) (
     ∷ [])
 unfolding program-of text
 program = refl
+
+-- the bytes that the program reads include the first line, and too many are 3 before all else
+too-much : program-of (replicate 65537 32) ≡ text "refused 3\n"
+unfolding program-of text
+too-much = refl
+
+just-enough : program-of (replicate 65536 32) ≡ text "refused 1\n"
+unfolding program-of text
+just-enough = refl

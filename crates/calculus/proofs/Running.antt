@@ -1,5 +1,5 @@
 -- What a run under a limit says of the steps: how it ends, which terms were judged, and that it cannot end otherwise.
-use Prim.Native.Nat.{ℕ, zero, suc, _+_, _≤_, _<_, zero-le, suc-le-suc}
+use Prim.Native.Nat.{ℕ, zero, suc, _≤_, _<_, zero-le, suc-le-suc}
 use mathlib.Core.Path.{_≡_, refl, ap}
 use mathlib.Core.Option.{Option, none, some}
 use native.Mathlib.Omega.{arith}

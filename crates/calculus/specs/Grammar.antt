@@ -1,5 +1,4 @@
 -- The grammar: a sequence holds groups and a group holds a sequence.
-use Prim.Native.Nat.{ℕ}
 use mathlib.Core.List.{List, [], _∷_}
 use mathlib.Core.Option.{Option, none, some}
 use Rattle.calculus.specs.Refusal.{Answer, given, refused, empty-expression}

@@ -1,7 +1,7 @@
 -- WHAT EACH ENTRY POINT ANSWERS from all of its inputs, and what it leaves in every buffer that is lent to it.
 use Prim.Native.Nat.{ℕ, _*_}
 use mathlib.Core.Bool.{Bool, true, false, _&&_}
-use mathlib.Core.List.{List, [], _∷_, _++_}
+use mathlib.Core.List.{List, _++_}
 use lib.Dec.{leb}
 use lib.ListN.{length, drop, replicate}
 use Rattle.calculus.specs.Term.{Term, var, lam, app, nodes, height}

@@ -1,6 +1,6 @@
 -- THE PROGRAM: what it writes, from all that it reads.
 use Prim.Native.Nat.{ℕ, _-_}
-use mathlib.Core.Bool.{Bool, true, false, cond}
+use mathlib.Core.Bool.{cond}
 use mathlib.Core.List.{List, [], _∷_, _++_, map, reverse}
 use mathlib.Core.Option.{Option, none, some}
 use lib.Dec.{leb, eqb}
@@ -8,7 +8,7 @@ use lib.ListN.{length, take, drop}
 use Rattle.calculus.specs.Term.{Term}
 use Rattle.calculus.specs.Numbers.{between, numeral, number}
 use Rattle.calculus.specs.Bounds.{most-input, program-cap}
-use Rattle.calculus.specs.Refusal.{Refusal, refusal-number, Answer, given, refused, outside-bounds, text-too-long}
+use Rattle.calculus.specs.Refusal.{refusal-number, refused, outside-bounds, text-too-long}
 use Rattle.calculus.specs.Judging.{judge, next-within}
 use Rattle.calculus.specs.Substitution.{put}
 use Rattle.calculus.specs.Orders.{Order, CBN, HSP, CBV, APP, NOR, HNO, HAP}

@@ -1,6 +1,6 @@
 -- WRITING TEXT: one layout of a term, in characters, for both notations.
 use Prim.Native.Nat.{ℕ, zero, suc, _+_, _-_, _/_, _%_, min}
-use mathlib.Core.Bool.{Bool, true, false, cond}
+use mathlib.Core.Bool.{cond}
 use mathlib.Core.List.{List, [], _∷_, _++_}
 use lib.Dec.{leb, ltb}
 use Rattle.calculus.specs.Term.{Term, var, lam, app}

@@ -1,16 +1,14 @@
 -- ETA: each step takes three nodes and raises neither index nor height, so that no refusal follows the input's own.
-use Prim.Native.Nat.{ℕ, zero, suc, _+_, _*_, _≤_, _<_}
+use Prim.Native.Nat.{ℕ, _+_, _*_, _≤_, _<_}
 use mathlib.Core.Path.{_≡_, refl, sym, _∙_}
 use mathlib.Core.Bool.{Bool, true, false, _||_, true≢false}
 use mathlib.Core.List.{List}
 use mathlib.Core.Option.{Option, none, some, Option·none-ne-some}
 use native.Mathlib.Omega.{arith}
 use Rattle.calculus.specs.Term.{Term, var, lam, app, nodes, height, greatest-index}
-use Rattle.calculus.specs.Bounds.{most-height}
 use Rattle.calculus.specs.Refusal.{Refusal, given}
-use Rattle.calculus.specs.Bytes.{decode}
 use Rattle.calculus.specs.Judging.{judge}
-use Rattle.calculus.specs.Runs.{Run, finished, unfinished, refused-after}
+use Rattle.calculus.specs.Runs.{finished, unfinished, refused-after}
 use Rattle.calculus.specs.Eta.{eta-step, is-some, has-place, eta}
 use Rattle.calculus.specs.Ends.{EtaStep, at-root, in-body, in-left, in-right, EtaSteps, none-made, one-more, EtaEnds}
 use Rattle.calculus.specs.Ends.{eta-finished, eta-unfinished}

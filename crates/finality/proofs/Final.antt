@@ -9,7 +9,7 @@ use lib.ListN.{length, take}
 use lib.Seq.{take-append-seam}
 use Rattle.calculus.specs.Term.{Term}
 use Rattle.calculus.specs.Refusal.{given}
-use Rattle.calculus.specs.Bytes.{encode, decode}
+use Rattle.calculus.specs.Bytes.{encode}
 use Rattle.calculus.specs.Judging.{judge}
 use Rattle.calculus.specs.Orders.{Order, step}
 use Rattle.calculus.specs.Runs.{finished}

@@ -5,10 +5,9 @@ use mathlib.Core.Bool.{Bool, true, false, false≢true}
 use mathlib.Core.Logic.{_⊎_, inl, inr}
 use mathlib.Core.Option.{Option, none, some, Option·none-ne-some}
 use Rattle.calculus.specs.Term.{Term, var, lam, app}
-use Rattle.calculus.specs.Substitution.{contract}
 use Rattle.finality.specs.Beta.{Many, done, next}
 use Rattle.finality.proofs.Reductions.{many-trans, many-map}
-use Rattle.calculus.specs.Orders.{Order, CBN, HSP, CBV, APP, NOR, HNO, HAP, enters, step}
+use Rattle.calculus.specs.Orders.{Order, CBN, HSP, CBV, APP, NOR, HNO, HAP, step}
 use Rattle.calculus.specs.Traits.{spine, eager, hybrid, late, NotLam, app-not-lam}
 use Rattle.finality.specs.Sestoft.{Big, big-var, big-whole, big-body, big-name, big-value, big-head, big-pair}
 use Rattle.finality.specs.Sestoft.{big-hybrid}

@@ -1,9 +1,9 @@
 -- HOW A STEP CHANGES THE NODES of a whole term: by k(a-1) - a - 2, where the argument has a nodes and occurs k times.
-use Prim.Native.Nat.{ℕ, _+_, _*_}
+use Prim.Native.Nat.{_+_, _*_}
 use mathlib.Core.Path.{_≡_}
 use native.Mathlib.Omega.{arith}
 use mathlib.Core.Option.{some}
-use Rattle.calculus.specs.Term.{Term, lam, app, nodes}
+use Rattle.calculus.specs.Term.{Term, nodes}
 use Rattle.calculus.specs.Substitution.{occurs}
 use Rattle.calculus.specs.Orders.{Order, step}
 use Rattle.calculus.proofs.Growth.{nodes-contract}

@@ -1,6 +1,6 @@
 -- NOTHING IS WRITTEN PAST A BUFFER: every buffer that is lent is afterwards as long as before, for every entry point.
 use Prim.Native.Nat.{ℕ, _*_, _≤_}
-use mathlib.Core.Path.{_≡_, refl, _∙_}
+use mathlib.Core.Path.{_≡_, refl}
 use mathlib.Core.Bool.{Bool, true, false, _&&_}
 use mathlib.Core.List.{List, []}
 use mathlib.Core.Option.{none}
@@ -8,11 +8,11 @@ use native.Mathlib.Omega.{arith}
 use borrow.Author.Tests.{leb-true}
 use lib.Dec.{leb}
 use lib.ListN.{length, replicate, length-replicate}
-use Rattle.calculus.specs.Term.{Term, var, lam, app, nodes}
+use Rattle.calculus.specs.Term.{Term, nodes}
 use Rattle.calculus.specs.Bounds.{most-nodes, most-open, output-per-node, room-per-node}
 use Rattle.calculus.specs.Refusal.{Refusal, Answer, given, refused, _then_, kept-if, output-too-short}
 use Rattle.calculus.specs.Bytes.{encode, decode}
-use Rattle.calculus.specs.Judging.{judge, within, next-within}
+use Rattle.calculus.specs.Judging.{judge}
 use Rattle.calculus.specs.Substitution.{contract}
 use Rattle.calculus.specs.Orders.{Order}
 use Rattle.calculus.specs.Runs.{Run, finished, unfinished, refused-after, run}
@@ -24,14 +24,14 @@ use Rattle.calculus.specs.Walk.{walk}
 use Rattle.calculus.specs.Grammar.{parsed}
 use Rattle.calculus.specs.Reading.{Notation, next, characters-of, read-text}
 use Rattle.calculus.specs.Writing.{write-text}
-use Rattle.calculus.specs.Outcomes.{Outcome, checked, suffice, stored, stored-run, coded, laid-over, cleared, lent}
+use Rattle.calculus.specs.Outcomes.{checked, suffice, stored, stored-run, coded, laid-over, cleared, lent}
 use Rattle.calculus.specs.Outcomes.{run-on, body-of}
 use Rattle.calculus.specs.Outcomes.{cap-allowed, limit-allowed, if-it-fits, applied, print-of, parse-of, apply-of}
 use Rattle.calculus.specs.Outcomes.{eta-of}
 use Rattle.calculus.specs.Outcomes.{reduced, reduce-of}
 use Rattle.calculus.proofs.Tests.{both}
 use Rattle.calculus.proofs.Sizes.{length-encode, nine-per-node, laid-length}
-use Rattle.calculus.proofs.Judged.{Judgement, in-bounds, high, many, within-judged, accepted, checked-given}
+use Rattle.calculus.proofs.Judged.{Judgement, in-bounds, high, many, within-judged, accepted}
 use Rattle.calculus.proofs.Judged.{NextJudgement, small, great, next-judged}
 use Rattle.calculus.proofs.Running.{run-ends}
 use Rattle.calculus.proofs.EtaRuns.{eta-ends, nodes-taken}
