@@ -12,9 +12,9 @@ use Rattle.calculus.specs.Term.{Term, var, lam, app, nodes}
 use Rattle.calculus.specs.Runs.{finished, unfinished}
 use Rattle.calculus.specs.Ends.{EtaStep, at-root, in-body, in-left, in-right, EtaSteps, none-made, one-more}
 use Rattle.calculus.specs.Ends.{EtaEnds, eta-finished, eta-unfinished}
-use Rattle.calculus.specs.Eta.{lower, eta-step, is-some, has-place, Counted, after, may-follow, step-if, stay-or}
+use Rattle.calculus.specs.Eta.{lower, eta-step, is-some, has-place, Counted, may-follow, step-if, stay-or}
 use Rattle.calculus.specs.Eta.{while-possible}
-use Rattle.calculus.specs.Eta.{as-body, as-right, as-left, do-parts, and-parts, eta-from, eta-ended, eta}
+use Rattle.calculus.specs.Eta.{do-parts, eta-from, eta}
 use Rattle.calculus.proofs.Measures.{nodes-positive}
 use Rattle.calculus.proofs.Tests.{neither}
 use Rattle.calculus.proofs.Lowering.{place-lower, EtaView, place, no-place, eta-view, eta-smaller}
@@ -71,8 +71,9 @@ module _ (more : ℕ → Bool) where
       record { made = p .made; steps = steps-in f keep (p .steps); count = p .count; allowed = p .allowed }
 
   -- where a run of some steps comes to, and what then holds
-  pub data Comes (P : ℕ → Term → Type 0) (n : ℕ) (t : Term) : Counted → Type 0 where
-    comes : {m : ℕ} {u : Term} → Progress n t m u → P m u → Comes P n t (after m u)
+  pub record Comes (P : ℕ → Term → Type 0) (n : ℕ) (t : Term) (c : Counted) : Type 0 where
+    pub way : Progress n t (c .0) (c .1)
+    pub so : P (c .0) (c .1)
 
   -- no place is left, if one more step may follow
   abbrev pub Settled : ℕ → Term → Type 0
@@ -95,13 +96,16 @@ module _ (more : ℕ → Bool) where
 
   comes-after : {P : ℕ → Term → Type 0} {n m : ℕ} {t u : Term} {c : Counted} → Progress n t m u → Comes P m u c
       → Comes P n t c
-  comes-after p (comes q r) = comes (progress-then p q) r
+  comes-after p q = record { way = progress-then p (q .way); so = q .so }
+
+  comes-here : {P : ℕ → Term → Type 0} (n : ℕ) (t : Term) → P n t → Comes P n t (n, t)
+  comes-here n t h = record { way = no-progress n t; so = h }
 
   stay-comes : {P : ℕ → Term → Type 0} (n : ℕ) (t : Term) (go : Term → Counted) (x : Option Term)
       → step-if (more n) t ≡ x
       → (x ≡ none → P n t) → ((u : Term) → step-if (more n) t ≡ some u → Comes P (suc n) u (go u))
-      → Comes P n t (stay-or (after n t) go x)
-  stay-comes n t go none e here on = comes (no-progress n t) (here refl)
+      → Comes P n t (stay-or (n, t) go x)
+  stay-comes n t go none e here on = comes-here n t (here refl)
   stay-comes n t go (some u) e here on = comes-after (one-step n t e) (on u e)
 
   abbrev pub Anything : ℕ → Term → Type 0
@@ -109,7 +113,7 @@ module _ (more : ℕ → Bool) where
 
   pub while-comes : (tries n : ℕ) (t : Term) → Comes Anything n t (while-possible more tries n t)
   unfolding while-possible
-  while-comes zero n t = comes (no-progress n t) tt
+  while-comes zero n t = comes-here n t tt
   while-comes (suc tries) n t =
       stay-comes n t _ (step-if (more n) t) refl (λ _. tt) (λ u _. while-comes tries (suc n) u)
 
@@ -118,7 +122,7 @@ module _ (more : ℕ → Bool) where
   step-if-none true t e = e
   step-if-none false t e = refl
 
-  still : (tries n : ℕ) (t : Term) → has-place t ≡ false → while-possible more tries n t ≡ after n t
+  still : (tries n : ℕ) (t : Term) → has-place t ≡ false → while-possible more tries n t ≡ (n, t)
   unfolding while-possible
   still zero n t h = refl
   still (suc tries) n t h = rw (step-if-none (more n) t (placeless t h))
@@ -147,7 +151,7 @@ module _ (more : ℕ → Bool) where
       on u e =
           let (a, k) = step-allowed (more n) (lam b) e in
           let h : has-place u ≡ false = left-placeless b refl (eta-view (lam b)) k (s a) in
-          rw (still tries (suc n) u h) (comes (no-progress (suc n) u) (λ _. h))
+          rw (still tries (suc n) u h) (comes-here (suc n) u (λ _. h))
 
   -- THE PARTS: what was settled earlier stays so, since every later step was allowed
   earlier : {n m : ℕ} {t u : Term} → Progress n t m u → more m ≡ true → more n ≡ true
@@ -157,50 +161,30 @@ module _ (more : ℕ → Bool) where
         | no l ↦ let same : n ≡ m = omega (arith, p .count) in rw same a
       ]
 
-  module _ (go : ℕ → Term → Counted) where
-    right-comes : {n m k : ℕ} {l l′ r r′ : Term} → Progress n l m l′ → Settled m l′ → Progress m r k r′ → Settled k r′
-        → Comes Settled n (app l r) (after k (app l′ r′))
-    unfolding has-place
-    right-comes {l′ = l′} {r = r} p s q z =
-        let left = progress-in (λ x. app x r) (λ _ _ e. in-left e) p in
-        let right = progress-in (app l′) (λ _ _ e. in-right e) q in
-        comes (progress-then left right)
-        (λ a. rw (s (earlier q a), z a))
-
-    join-right : {n m : ℕ} {l l′ r : Term} {c : Counted} → Progress n l m l′ → Settled m l′ → Comes Settled m r c
-        → Comes Settled n (app l r) (as-right l′ c)
-    join-right p s (comes q z) = right-comes p s q z
-
-    join-left : {n : ℕ} {l : Term} (r : Term) {c : Counted} → ((m : ℕ) → Comes Settled m r (go m r))
-        → Comes Settled n l c
-        → Comes Settled n (app l r) (as-left go r c)
-    join-left r on (comes {m = m} p s) = join-right p s (on m)
-
-  join-body : (tries : ℕ) {n : ℕ} {b : Term} {c : Counted} → Comes Settled n b c
-      → Comes Settled n (lam b) (as-body (while-possible more (suc tries)) c)
-  join-body tries (comes {m = m} {u = b′} p s) =
-      comes-after (progress-in lam (λ _ _ e. in-body e) p) (again-comes tries m b′ s)
-
   parts-come : (tries n : ℕ) (t : Term) → nodes t ≤ suc tries → (go : ℕ → Term → Counted)
       → ((m : ℕ) (u : Term) → nodes u ≤ tries → Comes Settled m u (go m u))
       → Comes Settled n t (do-parts (while-possible more (suc tries)) go n t)
   unfolding has-place nodes
-  parts-come tries n (var i) h go on = comes (no-progress n (var i)) (λ _. refl)
-  parts-come tries n (lam b) h go on = join-body tries (on n b (omega arith))
-  parts-come tries n (app l r) h go on = join-left go r (λ m. on m r (omega arith)) (on n l (omega arith))
-
-  after-while : (tries n : ℕ) (t : Term) → nodes t ≤ suc tries → (go : ℕ → Term → Counted)
-      → ((m : ℕ) (u : Term) → nodes u ≤ tries → Comes Settled m u (go m u)) → {c : Counted} → Comes Anything n t c
-      → Comes Settled n t (and-parts (while-possible more (suc tries)) go c)
-  after-while tries n t h go on (comes {m = m} {u = u} p _) =
-      comes-after p (parts-come tries m u (omega (arith, nodes-taken (p .steps))) go on)
+  parts-come tries n (var i) h go on = comes-here n (var i) (λ _. refl)
+  parts-come tries n (lam b) h go on =
+      let c = on n b (omega arith) in
+      comes-after (progress-in lam (λ _ _ e. in-body e) (c .way)) (again-comes tries (go n b .0) (go n b .1) (c .so))
+  parts-come tries n (app l r) h go on =
+      let c = on n l (omega arith) in
+      let d = on (go n l .0) r (omega arith) in
+      let left = progress-in (λ x. app x r) (λ _ _ e. in-left e) (c .way) in
+      let right = progress-in (app (go n l .1)) (λ _ _ e. in-right e) (d .way) in
+      record { way = progress-then left right; so = λ a. rw (c .so (earlier (d .way) a), d .so a) }
 
   -- THE WHOLE SEQUENCE
   pub eta-comes : (tries n : ℕ) (t : Term) → nodes t ≤ tries → Comes Settled n t (eta-from more tries n t)
   unfolding eta-from
   eta-comes zero n t h = absurd (omega (arith, nodes-positive t))
   eta-comes (suc tries) n t h =
-      after-while tries n t h (eta-from more tries) (eta-comes tries) (while-comes (suc tries) n t)
+      let c : Counted = while-possible more (suc tries) n t in
+      let w = while-comes (suc tries) n t in
+      comes-after (w .way)
+      (parts-come tries (c .0) (c .1) (omega (arith, nodes-taken (w .way .steps))) (eta-from more tries) (eta-comes tries))
 
 -- HOW A RUN ENDS: no step may follow just where a limit is reached
 may-not : (limit n : ℕ) → may-follow limit n ≡ false → (0 < limit) × (limit ≤ n)
@@ -234,11 +218,9 @@ ended limit {t = t} {u = u} {m = m} p s true h false f =
     let made : p .made ≡ limit = omega (arith, p .count) in
     rw same (eta-unfinished k (rw made at (p .steps)) h)
 
-come-ends : (limit : ℕ) {t : Term} {c : Counted} → Comes (may-follow limit) (Settled (may-follow limit)) 0 t c
-    → EtaEnds limit t (eta-ended c)
-unfolding has-place
-come-ends limit (comes {m = m} {u = u} p s) = ended limit p s (has-place u) refl (may-follow limit m) refl
-
 pub eta-ends : (limit : ℕ) (t : Term) → EtaEnds limit t (eta limit t)
 unfolding eta
-eta-ends limit t = come-ends limit (eta-comes (may-follow limit) (nodes t) 0 t (omega arith))
+eta-ends limit t =
+    let c : Counted = eta-from (may-follow limit) (nodes t) 0 t in
+    let h = eta-comes (may-follow limit) (nodes t) 0 t (omega arith) in
+    ended limit (h .way) (h .so) (has-place (c .1)) refl (may-follow limit (c .0)) refl

@@ -1,18 +1,19 @@
 -- How many nodes a contraction leaves.
 use Prim.Native.Nat.{ℕ, suc, pred, _+_, _*_, compare, Ordering, Ordering·lt, Ordering·eq, Ordering·gt}
 use mathlib.Core.Path.{_≡_, refl}
+use mathlib.Core.Bool.{Bool, true, false, cond}
 use native.Mathlib.Omega.{arith}
+use lib.Dec.{leb}
 use Rattle.calculus.specs.Term.{Term, var, lam, app, nodes}
 use Rattle.calculus.specs.Substitution.{raise, put, contract, compared, occurs}
 
 pub nodes-raise : (k d : ℕ) (t : Term) → nodes (raise k d t) ≡ nodes t
 unfolding nodes raise
-nodes-raise k d (var i) = by-side (compare i (suc d))
+nodes-raise k d (var i) = by-test (leb i d)
   where
-    by-side : (x : Ordering) → nodes (compared x (var i) (var (i + k)) (var (i + k))) ≡ 1
-    by-side Ordering·lt = refl
-    by-side Ordering·eq = refl
-    by-side Ordering·gt = refl
+    by-test : (b : Bool) → nodes (cond b (var i) (var (i + k))) ≡ 1
+    by-test true = refl
+    by-test false = refl
 nodes-raise k d (lam b) = rw (nodes-raise k (suc d) b)
 nodes-raise k d (app l r) = rw (nodes-raise k d l, nodes-raise k d r)
 

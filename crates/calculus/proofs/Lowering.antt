@@ -1,25 +1,23 @@
 -- What lowering and one eta contraction do to nodes, height, indices and the places that are left.
 use Prim.Native.Nat.{ℕ, suc, pred, _+_, _≤_, _<_}
 use mathlib.Core.Path.{_≡_, refl, ap, ap₂, sym, _∙_}
-use mathlib.Core.Bool.{Bool, true, false, not, _||_, cond, true≢false}
+use mathlib.Core.Bool.{Bool, true, false, not, _&&_, _||_, cond, true≢false}
 use mathlib.Core.Option.{Option, none, some}
 use native.Mathlib.Omega.{arith}
-use native.Mathlib.Decide.{decLe, ℕ-discrete}
-use borrow.Author.Tests.{ne-eqb, eqb-true}
+use native.Mathlib.Decide.{decLe}
+use borrow.Author.Tests.{le-leb, lt-leb, ne-eqb, eqb-true}
 use lib.Dec.{eqb}
 use Rattle.calculus.specs.Term.{Term, var, lam, app, nodes, height, greatest-index}
 use Rattle.calculus.specs.Eta.{blocked, lower, is-one, eta-body, eta-step, is-some, has-place}
 use Rattle.calculus.specs.Ends.{EtaStep, at-root, in-body, in-left, in-right}
-use Rattle.calculus.proofs.Substituting.{compare-less, compare-more, compare-same}
 
 pub lower-stays : (d i : ℕ) → i ≤ suc d → lower d (var i) ≡ var i
 unfolding lower
-lower-stays d i h =
-    elim (ℕ-discrete i (suc d)) [ yes e ↦ rw (e, compare-same) | no n ↦ rw (compare-less i (suc d) (omega arith)) ]
+lower-stays d i h = rw (le-leb i (suc d) h)
 
 pub lower-falls : (d i : ℕ) → suc d < i → lower d (var i) ≡ var (pred i)
 unfolding lower
-lower-falls d i h = rw (compare-more i (suc d) h)
+lower-falls d i h = rw (lt-leb i (suc d) h)
 
 -- a fact about the index that a variable has afterwards
 lowered : (P : Term → Type 0) (d i : ℕ) → (i ≤ suc d → P (var i)) → (suc d < i → P (var (pred i))) → P (lower d (var i))
@@ -72,9 +70,9 @@ one-lower d (var i) =
 one-lower d (lam b) = refl
 one-lower d (app l r) = refl
 
-some-unless : (b : Bool) (t : Term) → is-some (cond b none (some t)) ≡ not b
-some-unless true t = refl
-some-unless false t = refl
+some-if : (b : Bool) (t : Term) → is-some (cond b (some t) none) ≡ b
+some-if true t = refl
+some-if false t = refl
 
 -- a variable is no body of a place, whatever its index
 body-var : (d i : ℕ) → is-some (eta-body (lower d (var i))) ≡ false
@@ -85,9 +83,9 @@ unfolding lower
 body-lower d (var i) = body-var (suc d) i
 body-lower d (lam b) = refl
 body-lower d (app m a) =
-    some-unless (not (is-one (lower (suc d) a)) || blocked 0 (lower (suc d) m)) _
-    ∙ ap₂ (λ one block. not (not one || block)) (one-lower d a) (blocked-lower 0 (suc d) (omega arith) m)
-    ∙ sym (some-unless (not (is-one a) || blocked 0 m) _)
+    some-if (is-one (lower (suc d) a) && not (blocked 0 (lower (suc d) m))) _
+    ∙ ap₂ (λ one block. one && not block) (one-lower d a) (blocked-lower 0 (suc d) (omega arith) m)
+    ∙ sym (some-if (is-one a && not (blocked 0 m)) _)
 
 var-place : (d i : ℕ) → has-place (lower d (var i)) ≡ false
 unfolding has-place
@@ -105,7 +103,7 @@ pub data EtaView : Term → Option Term → Type 0 where
   no-place : {t : Term} → EtaView t none
 
 view-body : (m a : Term) (b : Bool) → is-one a ≡ true → blocked 0 m ≡ b
-    → EtaView (lam (app m a)) (cond b none (some (lower 0 m)))
+    → EtaView (lam (app m a)) (cond (not b) (some (lower 0 m)) none)
 view-body m (var i) true o e = no-place
 view-body m (var i) false o e = let one : i ≡ 1 = eqb-true i 1 o in rw one (place e)
 view-body m (lam c) b o e = absurd (true≢false (sym o))
@@ -117,7 +115,7 @@ eta-view (lam (var i)) = no-place
 eta-view (lam (lam b)) = no-place
 eta-view (lam (app m a)) = by-one (is-one a) refl
   where
-    by-one : (o : Bool) → is-one a ≡ o → EtaView (lam (app m a)) (cond (not o || blocked 0 m) none (some (lower 0 m)))
+    by-one : (o : Bool) → is-one a ≡ o → EtaView (lam (app m a)) (cond (o && not (blocked 0 m)) (some (lower 0 m)) none)
     by-one true e = view-body m a (blocked 0 m) e refl
     by-one false e = no-place
 eta-view (app l r) = no-place

@@ -3,6 +3,7 @@ use Prim.Native.Nat.{ℕ, zero, suc, _+_, _≤_, _<_, pred, compare, Ordering·l
 use Prim.Native.Nat.{compare·zero-zero, compare·zero-suc, compare·suc-zero, compare·suc-suc}
 use mathlib.Core.Path.{_≡_, refl}
 use native.Mathlib.Omega.{arith}
+use borrow.Author.Tests.{le-leb, lt-leb}
 use Rattle.calculus.specs.Term.{Term, var}
 use Rattle.calculus.specs.Substitution.{raise, put}
 
@@ -39,16 +40,11 @@ split (suc i) (suc d) = lower (split i d)
 
 pub raise-bound : (k d i : ℕ) → i ≤ d → raise k d (var i) ≡ var i
 unfolding raise
-raise-bound k d i h = rw (compare-less i (suc d) (omega arith))
+raise-bound k d i h = rw (le-leb i d h)
 
 pub raise-free : (k d i : ℕ) → d < i → raise k d (var i) ≡ var (i + k)
 unfolding raise
-raise-free k d i h = beyond (split i d)
-  where
-    beyond : Split i d → raise k d (var i) ≡ var (i + k)
-    beyond (below g) = absurd (omega arith)
-    beyond (at e) = rw (e, compare-same)
-    beyond (above g) = rw (compare-more i (suc d) g)
+raise-free k d i h = rw (lt-leb i d h)
 
 pub put-below : (d : ℕ) (a : Term) (i : ℕ) → i ≤ d → put d a (var i) ≡ var i
 unfolding put

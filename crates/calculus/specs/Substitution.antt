@@ -1,5 +1,7 @@
 -- The contraction of one redex, by de Bruijn's rule.
 use Prim.Native.Nat.{ℕ, suc, _+_, pred, compare, Ordering, Ordering·lt, Ordering·eq, Ordering·gt}
+use mathlib.Core.Bool.{cond}
+use lib.Dec.{leb}
 use Rattle.calculus.specs.Term.{Term, var, lam, app}
 
 -- by how an index compares with its depth: smaller, equal or greater
@@ -10,7 +12,7 @@ compared Ordering·gt smaller equal greater = greater
 
 -- the free indices raised by k, of a term that lies under d abstractions of its own; index 0 stays, as bound ones do
 unfoldable pub raise : ℕ → ℕ → Term → Term
-raise k d (var i) = compared (compare i (suc d)) (var i) (var (i + k)) (var (i + k))
+raise k d (var i) = cond (leb i d) (var i) (var (i + k))
 raise k d (lam b) = lam (raise k (suc d) b)
 raise k d (app l r) = app (raise k d l) (raise k d r)
 
