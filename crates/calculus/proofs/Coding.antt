@@ -11,14 +11,14 @@ use lib.ListN.{length, getD, take, drop, length-append, take-append-drop}
 use lib.Seq.{getD-append-add, length-take-le}
 use Rattle.calculus.specs.Term.{Term, var, lam, app, height, greatest-index}
 use Rattle.calculus.specs.Bounds.{greatest-number}
-use Rattle.calculus.specs.Numbers.{number}
+use Rattle.calculus.specs.Numbers.{from-digits}
 use Rattle.calculus.specs.Refusal.{given}
 use Rattle.calculus.specs.Bytes.{digits, encode, Found, found, missing, variable-if, under, beside, two-parts}
 use Rattle.calculus.specs.Bytes.{of-kind, term-in, whole, decode}
 
 -- EIGHT BYTES AND AN INDEX
-pub number-digits : (k n : ℕ) → number 256 (digits k n) ≡ n
-unfolding number digits
+pub number-digits : (k n : ℕ) → from-digits 256 (digits k n) ≡ n
+unfolding from-digits digits
 number-digits zero n = omega arith
 number-digits (suc k) n = rw (number-digits k (n / 256)) (omega arith)
 
@@ -26,14 +26,14 @@ number-digits (suc k) n = rw (number-digits k (n / 256)) (omega arith)
 abbrev pub AllBytes : List ℕ → Type 0
 AllBytes s = (i : ℕ) → getD s i 0 < 256
 
-pub digits-number : (k : ℕ) (bs : List ℕ) → AllBytes bs → length bs ≡ suc k → digits k (number 256 bs) ≡ bs
-unfolding digits number
+pub digits-number : (k : ℕ) (bs : List ℕ) → AllBytes bs → length bs ≡ suc k → digits k (from-digits 256 bs) ≡ bs
+unfolding digits from-digits
 digits-number k [] h e = absurd (omega arith)
 digits-number zero (b ∷ []) h e = ap (λ (x : ℕ). x ∷ []) (omega arith)
 digits-number zero (b ∷ c ∷ bs) h e = absurd (omega arith)
 digits-number (suc k) (b ∷ bs) h e =
-    let low : (b + 256 * number 256 bs) % 256 ≡ b = omega (arith, h 0) in
-    let high : (b + 256 * number 256 bs) / 256 ≡ number 256 bs = omega (arith, h 0) in
+    let low : (b + 256 * from-digits 256 bs) % 256 ≡ b = omega (arith, h 0) in
+    let high : (b + 256 * from-digits 256 bs) / 256 ≡ from-digits 256 bs = omega (arith, h 0) in
     rw (low, high, digits-number k bs (λ i. h (suc i)) (omega arith))
 
 pub bytes-after : (xs ys : List ℕ) → AllBytes (xs ++ ys) → AllBytes ys
@@ -48,7 +48,7 @@ bytes-take (suc k) (b ∷ bs) h (suc i) = bytes-take k bs (λ j. h (suc j)) i
 -- THE BYTES OF A TERM are read as that term, wherever they stand
 pub term-first : (t : Term) (deep : ℕ) → height t ≤ deep → (rest : List ℕ)
     → term-in deep (encode t ++ rest) ≡ found t rest
-unfolding term-in encode digits height number
+unfolding term-in encode digits height from-digits
 term-first (var i) zero h rest = absurd (omega arith)
 term-first (lam b) zero h rest = absurd (omega arith)
 term-first (app l r) zero h rest = absurd (omega arith)

@@ -112,8 +112,8 @@ module _ (all : List ℕ) where
   moves-binder x [] t u = past-a-word t u
   moves-binder x (e ∷ at) t u = either (eqb e 46) (past-a-word t (past u)) (to-an-invalid (tail-tail u (past t)))
 
-  moves-bound : {c : ℕ} (cs : List ℕ) → Tail (c ∷ cs) all → Moves all (cl.bound cs)
-  unfolding cl.bound
+  moves-bound : {c : ℕ} (cs : List ℕ) → Tail (c ∷ cs) all → Moves all (cl.binder-at cs)
+  unfolding cl.binder-at
   moves-bound [] t = past-a-word t whole
   moves-bound (e ∷ cs) t =
       let name : List ℕ = start in-binder (e ∷ cs) in

@@ -9,7 +9,7 @@ use lib.ListN.{length}
 use Rattle.calculus.specs.Term.{Term, var, lam}
 use Rattle.calculus.specs.Refusal.{given, refused, empty-expression}
 use Rattle.calculus.specs.Walk.{Token, lambda, left, right, index}
-use Rattle.calculus.specs.Grammar.{Part, applied, Waits, for-group, for-body, parsed}
+use Rattle.calculus.specs.Grammar.{Part, with-item, Waits, for-group, for-body, parsed}
 
 -- where a sequence ends: at the end of the text, or before a `)`
 pub data Ends {A : Type 0} (close : A) : List A → Type 0 where
@@ -20,7 +20,8 @@ mutual
   -- after a part, the tokens give a term and end before the rest
   pub data Sequence : List Token → Part → Term → List Token → Type 0 where
     ends : {t : Term} {rest : List Token} → Ends right rest → Sequence rest (some t) t rest
-    item : {ts mid rest : List Token} {p : Part} {g t : Term} → Item ts g mid → Sequence mid (some (applied p g)) t rest
+    item : {ts mid rest : List Token} {p : Part} {g t : Term} → Item ts g mid
+        → Sequence mid (some (with-item p g)) t rest
         → Sequence ts p t rest
 
   -- a variable; an abstraction, whose body is the rest of its sequence; a sequence in parentheses, of which the
@@ -37,7 +38,7 @@ sequence-ends (item g s) = sequence-ends s
 
 -- a body ends where its sequence ends
 body-ends : {ts : List Token} → Ends right ts → (p : Part) (b : Term) (ps : List Waits)
-    → parsed ts (some b) (for-body p ∷ ps) ≡ parsed ts (some (applied p (lam b))) ps
+    → parsed ts (some b) (for-body p ∷ ps) ≡ parsed ts (some (with-item p (lam b))) ps
 unfolding parsed
 body-ends at-the-end p b ps = refl
 body-ends at-a-right p b ps = refl
@@ -51,7 +52,7 @@ mutual
   sequence-parsed (item {p = p} g s) ps = item-parsed g p ps ∙ sequence-parsed s ps
 
   pub item-parsed : {ts rest : List Token} {t : Term} → Item ts t rest → (p : Part) (ps : List Waits)
-      → parsed ts p ps ≡ parsed rest (some (applied p t)) ps
+      → parsed ts p ps ≡ parsed rest (some (with-item p t)) ps
   item-parsed variable p ps = refl
   item-parsed (abstraction {b = b} s) p ps = sequence-parsed s (for-body p ∷ ps) ∙ body-ends (sequence-ends s) p b ps
   item-parsed (closed s) p ps = sequence-parsed s (for-group p ∷ ps)
@@ -72,14 +73,14 @@ pub data Begins (ts : List Token) (p : Part) : Type 0 where
   empty : ((ps : List Waits) → parsed ts p ps ≡ refused empty-expression) → Begins ts p
 
 after-item : {ts mid : List Token} {g : Term} (p : Part) → length mid ≤ length ts → Item ts g mid
-    → Begins mid (some (applied p g)) → Begins ts p
+    → Begins mid (some (with-item p g)) → Begins ts p
 after-item p h g (sequence t rest k s) = sequence t rest (omega arith) (item g s)
 after-item p h g (empty e) = empty (λ ps. item-parsed g p ps ∙ e ps)
 
 after-lambda : {ts : List Token} (p : Part) → Begins ts none → Begins (lambda ∷ ts) p
 unfolding parsed
 after-lambda p (sequence b rest h s) =
-    sequence (applied p (lam b)) rest (omega arith) (item (abstraction s) (ends (sequence-ends s)))
+    sequence (with-item p (lam b)) rest (omega arith) (item (abstraction s) (ends (sequence-ends s)))
 after-lambda p (empty e) = empty (λ ps. e (for-body p ∷ ps))
 
 -- a group, and what comes after it, of which `go` tells how it begins
@@ -90,9 +91,9 @@ after-left {ts} p go (sequence g rest h s) = by-end (sequence-ends s) h s
   where
     by-end : {rest : List Token} → Ends right rest → length rest ≤ length ts → Sequence ts none g rest
         → Begins (left ∷ ts) p
-    by-end at-the-end h s = after-item p (omega arith) (unclosed s) (go [] (some (applied p g)) (omega arith))
+    by-end at-the-end h s = after-item p (omega arith) (unclosed s) (go [] (some (with-item p g)) (omega arith))
     by-end (at-a-right {xs = mid}) h s =
-        after-item p (omega arith) (closed s) (go mid (some (applied p g)) (omega arith))
+        after-item p (omega arith) (closed s) (go mid (some (with-item p g)) (omega arith))
 after-left p go (empty e) = empty (λ ps. e (for-group p ∷ ps))
 
 -- how tokens begin, by how all shorter ones do
@@ -104,7 +105,7 @@ by-shorter [] (some t) go = sequence t [] (omega arith) (ends at-the-end)
 by-shorter (right ∷ ts) none go = empty (λ ps. refl)
 by-shorter (right ∷ ts) (some t) go = sequence t (right ∷ ts) (omega arith) (ends at-a-right)
 by-shorter (index i ∷ ts) p go =
-    after-item p (omega arith) variable (go ts (some (applied p (var i))) (omega arith))
+    after-item p (omega arith) variable (go ts (some (with-item p (var i))) (omega arith))
 by-shorter (lambda ∷ ts) p go = after-lambda p (go ts none (omega arith))
 by-shorter (left ∷ ts) p go = after-left p (λ mid q h. go mid q (omega arith)) (go ts none (omega arith))
 

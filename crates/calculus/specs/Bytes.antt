@@ -5,7 +5,7 @@ use mathlib.Core.List.{List, [], _∷_, _++_}
 use lib.Dec.{leb}
 use lib.ListN.{length, take, drop}
 use Rattle.calculus.specs.Term.{Term, var, lam, app}
-use Rattle.calculus.specs.Numbers.{number}
+use Rattle.calculus.specs.Numbers.{from-digits}
 use Rattle.calculus.specs.Refusal.{Answer, given, refused, not-a-term}
 
 -- n in k + 1 bytes, low byte first; the last has all that is left, which is a byte where n is below 256 ^ (k + 1)
@@ -27,7 +27,7 @@ pub data Found : Type 0 where
 
 -- a variable has all of its eight bytes
 abbrev pub variable-if : Bool → List ℕ → Found
-variable-if true bs = found (var (number 256 (take 8 bs))) (drop 8 bs)
+variable-if true bs = found (var (from-digits 256 (take 8 bs))) (drop 8 bs)
 variable-if false bs = missing (1 ∷ bs)
 
 abbrev pub under : Found → Found
@@ -44,14 +44,14 @@ two-parts (missing at) next = missing at
 
 -- what a kind byte asks of the bytes after it, by how a term is read from those
 unfoldable pub of-kind : (List ℕ → Found) → ℕ → List ℕ → Found
-unfolding number
+unfolding from-digits
 of-kind next zero bs = missing (0 ∷ bs)
 of-kind next (suc zero) bs = variable-if (leb 8 (length bs)) bs
 of-kind next (suc (suc zero)) bs = under (next bs)
 of-kind next (suc (suc (suc zero))) bs = two-parts (next bs) next
 of-kind next (suc (suc (suc (suc k)))) bs = missing (suc (suc (suc (suc k))) ∷ bs)
 
--- the term that bytes begin with, nested at most so deep
+-- the term that bytes begin with, nested at most so deep; each level takes a byte, so as many as bytes are enough
 unfoldable pub term-in : ℕ → List ℕ → Found
 unfolding of-kind
 term-in zero s = missing s

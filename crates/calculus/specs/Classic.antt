@@ -36,16 +36,16 @@ binder-ended x [] = word (binder x) []
 binder-ended x (c ∷ cs) = cond (eqb c 46) (word (binder x) cs) (invalid (c ∷ cs))
 
 -- after a lambda: a name that starts with no figure
-unfoldable pub bound : List ℕ → Next
+unfoldable pub binder-at : List ℕ → Next
 unfolding binder-ended start rest
-bound [] = word (binder []) []
-bound (c ∷ cs) =
+binder-at [] = word (binder []) []
+binder-at (c ∷ cs) =
     cond (is-figure c) (invalid (c ∷ cs)) (binder-ended (start in-binder (c ∷ cs)) (rest in-binder (c ∷ cs)))
 
 -- the word at a character, by what it is
 unfoldable pub word-at : Glyph → ℕ → List ℕ → Next
-unfolding bound start rest
-word-at lambda c cs = bound cs
+unfolding binder-at start rest
+word-at lambda c cs = binder-at cs
 word-at left c cs = word opening cs
 word-at right c cs = word closing cs
 word-at letter c cs = word (name (c ∷ start in-name cs)) (rest in-name cs)

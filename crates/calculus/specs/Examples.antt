@@ -29,15 +29,15 @@ pub data Left : Type 0 where
   answered : Outcome (Answer ℕ) → Left
   ran : Outcome (Run ℕ) → Left
 
--- every call has a cap of 20 nodes, and just the output and the room that this asks for, filled with sevens
+-- every call has a cap of 20 nodes, and five more of output and of room than this asks for, filled with sevens
 abbrev cap : ℕ
 cap = 20
 
 abbrev out : List ℕ
-out = replicate 180 7
+out = replicate 185 7
 
 abbrev room : List ℕ
-room = replicate 160 7
+room = replicate 165 7
 
 abbrev coded-or-none : Answer Term → List ℕ
 coded-or-none (given t) = encode t
@@ -59,10 +59,10 @@ pub data Wanted : Type 0 where
   runs : Run Term → Wanted
 
 abbrev term-left : Term → List ℕ
-term-left t = encode t ++ replicate (180 - length (encode t)) 7
+term-left t = encode t ++ replicate (185 - length (encode t)) 7
 
 abbrev room-left : List ℕ
-room-left = replicate 160 0
+room-left = replicate 160 0 ++ replicate 5 7
 
 unfoldable pub wanted : Wanted → Left
 unfolding encode
@@ -125,4 +125,5 @@ sixteen =
     ∷ eta 0 "\\\\3(\\41)21" gives runs (finished 3 (app (var 1) (var 1)))
     -- P16
     ∷ parse de-bruijn "" gives answers (refused empty-expression)
+    ∷ parse classic "" gives answers (refused empty-expression)
     ∷ []

@@ -17,6 +17,6 @@ numeral base zero n = []
 numeral base (suc most) n = cond (ltb n base) [] (numeral base most (n / base)) ++ (figure (n % base) ∷ [])
 
 -- the number that digits stand for, low digit first
-unfoldable pub number : (base : ℕ) → List ℕ → ℕ
-number base [] = 0
-number base (d ∷ ds) = d + base * number base ds
+unfoldable pub from-digits : (base : ℕ) → List ℕ → ℕ
+from-digits base [] = 0
+from-digits base (d ∷ ds) = d + base * from-digits base ds

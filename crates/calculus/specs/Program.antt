@@ -6,9 +6,9 @@ use mathlib.Core.Option.{Option, none, some}
 use lib.Dec.{leb, eqb}
 use lib.ListN.{length, take, drop}
 use Rattle.calculus.specs.Term.{Term}
-use Rattle.calculus.specs.Numbers.{between, numeral, number}
+use Rattle.calculus.specs.Numbers.{between, numeral, from-digits}
 use Rattle.calculus.specs.Bounds.{most-input, program-cap}
-use Rattle.calculus.specs.Refusal.{refusal-number, refused, outside-bounds, text-too-long}
+use Rattle.calculus.specs.Refusal.{Refusal, refusal-number, refused, outside-bounds, text-too-long}
 use Rattle.calculus.specs.Judging.{judge, next-within}
 use Rattle.calculus.specs.Substitution.{put}
 use Rattle.calculus.specs.Orders.{Order, CBN, HSP, CBV, APP, NOR, HNO, HAP}
@@ -51,11 +51,11 @@ past b (c ∷ cs) = cond (eqb b c) (some cs) none
 
 -- the number of one to seven decimal digits
 abbrev pub limit-in : List ℕ → Option ℕ
-limit-in ds = cond (between 1 7 (length ds)) (some (number 10 (reverse (map (λ c. c - 48) ds)))) none
+limit-in ds = cond (between 1 7 (length ds)) (some (from-digits 10 (reverse (map (λ c. c - 48) ds)))) none
 
 -- THE FIRST LINE: an order's three letters, a space, a limit, a space, the notation, a line feed; or it is malformed
 unfoldable pub first-line : List ℕ → Option Job
-unfolding look-up order-words notation-words start rest number
+unfolding look-up order-words notation-words start rest from-digits
 first-line s = do
   o ← look-up order-words (take 3 s)
   digits ← past 32 (drop 3 s)
@@ -72,29 +72,31 @@ line word n = word ++ (32 ∷ (numeral 10 7 n ++ (10 ∷ [])))
 abbrev pub term-line : Notation → Term → List ℕ
 term-line n t = write-text n t ++ (10 ∷ [])
 
+abbrev pub refused-line : Refusal → List ℕ
+unfolding codes numeral refusal-number
+refused-line e = line (codes "refused") (refusal-number e)
+
 abbrev pub report : Notation → Run Term → List ℕ
 unfolding codes numeral write-text refusal-number
 report n (finished k t) = line (codes "finished") k ++ term-line n t
 report n (unfinished k t) = line (codes "unfinished") k ++ term-line n t
-report n (refused-after k e) = line (codes "refused") (refusal-number e)
+report n (refused-after k e) = refused-line e
 
 -- a limit outside its bounds is 1, before the text is read
 abbrev pub done : Job → List ℕ
 unfolding codes numeral write-text refusal-number read-text run next-within put
 done (job o limit n text) =
-    report n
-    (cond (limit-allowed limit)
-    (run-on (read-text n program-cap text) (run (judge program-cap) o limit))
-    (refused-after 0 outside-bounds))
+    cond (limit-allowed limit)
+    (report n (run-on (read-text n program-cap text) (run (judge program-cap) o limit)))
+    (refused-line outside-bounds)
 
 abbrev pub done-or-malformed : Option Job → List ℕ
 unfolding codes numeral write-text refusal-number read-text run next-within put
-done-or-malformed none = report de-bruijn (refused-after 0 outside-bounds)
+done-or-malformed none = refused-line outside-bounds
 done-or-malformed (some j) = done j
 
 -- too many bytes are 3, before the first line is looked at
 unfoldable pub program-of : List ℕ → List ℕ
 unfolding codes numeral write-text refusal-number first-line read-text run next-within put
 program-of s =
-    cond (leb (length s) most-input) (done-or-malformed (first-line s))
-    (report de-bruijn (refused-after 0 text-too-long))
+    cond (leb (length s) most-input) (done-or-malformed (first-line s)) (refused-line text-too-long)

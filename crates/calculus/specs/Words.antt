@@ -30,7 +30,8 @@ unfoldable pub rest : (ℕ → Bool) → List ℕ → List ℕ
 rest test [] = []
 rest test (c ∷ cs) = elim (test c) [ true ↦ rest test cs | false ↦ c ∷ cs ]
 
--- refusal 5: the place of an invalid character, counted in characters of the text, and its code point
+-- refusal 5: the place of an invalid character, counted in characters of the text, and its code point; what remains at
+-- an invalid character is never empty
 unfoldable pub invalid-in : (text at : List ℕ) → Refusal
 invalid-in text [] = invalid-character (length text) 0
 invalid-in text (c ∷ cs) = invalid-character (length text - suc (length cs)) c
