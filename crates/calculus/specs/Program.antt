@@ -86,9 +86,10 @@ report n (refused-after k e) = refused-line e
 abbrev pub done : Job → List ℕ
 unfolding codes numeral write-text refusal-number read-text run next-within put
 done (job o limit n text) =
-    cond (limit-allowed limit)
-    (report n (run-on (read-text n program-cap text) (run (judge program-cap) o limit)))
-    (refused-line outside-bounds)
+    report n
+    (cond (limit-allowed limit)
+    (run-on (read-text n program-cap text) (run (judge program-cap) o limit))
+    (refused-after 0 outside-bounds))
 
 abbrev pub done-or-malformed : Option Job → List ℕ
 unfolding codes numeral write-text refusal-number read-text run next-within put
