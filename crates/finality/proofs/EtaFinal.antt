@@ -8,7 +8,7 @@ use native.Mathlib.Omega.{arith}
 use Rattle.calculus.specs.Term.{Term, var, lam, app, nodes, height, greatest-index}
 use Rattle.calculus.specs.Refusal.{Refusal, given}
 use Rattle.calculus.specs.Judging.{judge}
-use Rattle.calculus.specs.Runs.{finished, unfinished, refused-after}
+use Rattle.calculus.specs.Runs.{Run, finished, unfinished, refused-after}
 use Rattle.calculus.specs.Eta.{eta-step, is-some, has-place, eta}
 use Rattle.calculus.specs.Ends.{EtaStep, at-root, in-body, in-left, in-right, EtaSteps, none-made, one-more, EtaEnds}
 use Rattle.calculus.specs.Ends.{eta-finished, eta-unfinished}
@@ -83,7 +83,7 @@ steps-place (in-body {b = b} s) h = steps-place s (neither (is-some (eta-step (l
 steps-place (in-left {l = l} {r = r} s) h = steps-place s (neither (has-place l) (has-place r) h .0)
 steps-place (in-right {l = l} {r = r} s) h = steps-place s (neither (has-place l) (has-place r) h .1)
 
--- FINISHED EXACTLY WHEN NO PLACE IS LEFT; and with no limit, always
+-- FINISHED EXACTLY WHEN NO PLACE IS LEFT
 pub eta-finished-so : (limit : ℕ) (t : Term) {n : ℕ} {u : Term} → eta limit t ≡ finished n u
     → EtaSteps n t u × (has-place u ≡ false)
 eta-finished-so limit t e = read (rw e at (eta-ends limit t))
@@ -98,3 +98,12 @@ eta-unfinished-so limit t e = read (rw e at (eta-ends limit t))
     read : {n : ℕ} {u : Term} → EtaEnds limit t (unfinished n u)
         → EtaSteps n t u × (has-place u ≡ true) × (n ≡ limit) × (0 < limit)
     read (eta-unfinished l p k) = (p, k, refl, l)
+
+-- and with no limit always
+pub eta-unlimited : (t : Term) → (n : ℕ) × (u : Term) × (eta 0 t ≡ finished n u)
+eta-unlimited t = read (eta 0 t) (eta-ends 0 t)
+  where
+    read : (r : Run Term) → EtaEnds 0 t r → (n : ℕ) × (u : Term) × (r ≡ finished n u)
+    read (finished n u) e = (n, u, refl)
+    read (unfinished n u) (eta-unfinished l p k) = absurd (omega arith)
+    read (refused-after n e) x = elim x [ ]
