@@ -81,6 +81,16 @@ term-enough (suc i) zero (k ∷ bs) f g = absurd (omega arith)
 term-enough (suc i) (suc j) (k ∷ bs) f g =
     same-kind (term-in i) (term-in j) k bs (λ s h. term-enough i j s (omega arith) (omega arith)) (term-forward j bs)
 
+-- THE TERM THAT BYTES BEGIN WITH, in as many levels as there are bytes
+abbrev pub first : List ℕ → Found
+first s = term-in (length s) s
+
+pub first-of-kind : (k : ℕ) (bs : List ℕ) → first (k ∷ bs) ≡ of-kind first k bs
+unfolding term-in
+first-of-kind k bs =
+    same-kind (term-in (length bs)) first k bs (λ s h. term-enough (length bs) (length s) s h (omega arith))
+    (term-forward (length bs) bs)
+
 -- the offset of refusal 10 lies in the input, or just after it
 pub offset-inside : (s : List ℕ) {offset : ℕ} → decode s ≡ refused (not-a-term offset) → offset ≤ length s
 unfolding decode

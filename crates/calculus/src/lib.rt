@@ -1,10 +1,10 @@
 // The bounds of document 01 as constants; all else of this crate is definitions (specs/) and laws about them (proofs/).
 
 // The most nodes that a cap may state, and that a query or a printer takes.
-pub const MOST_NODES: usize = 65536;
+pub const MOST_NODES: u64 = 65536;
 
 // The greatest height of a term, and the most parentheses and binders open at once in a text.
-pub const MOST_HEIGHT: usize = 512;
+pub const MOST_HEIGHT: u64 = 512;
 
 // The most bytes of a text.
 pub const MOST_TEXT: usize = 2097152;

@@ -1,0 +1,151 @@
+-- `term::survey_at` meets its contract: at each head its answer is a law of `Surveying`. The room falls at each call.
+use Prim.Native.Nat.{ℕ, _<_}
+use mathlib.Core.Path.{_≡_, sym, _∙_}
+use native.Mathlib.Omega.{arith}
+use lib.ListN.{drop}
+use borrow.Author.Needs.{needs}
+use borrow.Fn.Kinds.{In}
+use borrow.Fn.PlainCycle.{Measures, is, falls, and}
+use Rattle.term.specs.Heads.{head-in}
+use Rattle.term.specs.declared.Head.the-variants.{Abstraction, Application}
+use Rattle.term.proofs.Surveying.{no-room, at-nothing, at-variable, at-abstraction, body-over, at-application}
+use Rattle.term.proofs.Surveying.{left-over, right-over, body-begins, left-begins, right-begins, known}
+use Rattle.term.proofs.survey_at.Reads as own
+use Rattle.term.proofs.survey_at.Kinds as kinds
+use Rattle.term.proofs.+survey_at.Lts-survey_at as lts
+use Rattle.term.proofs.head_at.Reads as head-at-reads
+use Rattle.term.proofs.of_abstraction.Reads as of-abstraction-reads
+use Rattle.term.proofs.of_application.Reads as of-application-reads
+use Rattle.term.proofs.of_variable.Reads as of-variable-reads
+use Rattle.term.proofs.+survey_at.{statement}
+use Rattle.term.proofs.+survey_at.Tie.{close}
+
+-- the measure; what the function is given at the measure t, and what a call of it asks below t
+abbrev μ : Measures 1 kinds.ps ℕ
+μ κs a = a .1 .1 .1 .0
+
+abbrev given : ℕ → In 1 kinds.ps
+given t = and 1 kinds.ps (is 1 kinds.ps μ t) own.Pre
+
+abbrev below : ℕ → In 1 kinds.ps
+below t = and 1 kinds.ps (falls 1 kinds.ps _<_ μ t) own.Pre
+
+abbrev claims : ℕ → lts.Claims
+claims t = (
+  head-at-reads.Asked,
+  head-at-reads.Learnt,
+  of-variable-reads.Asked,
+  of-variable-reads.Learnt,
+  below t,
+  own.Post,
+  of-abstraction-reads.Asked,
+  of-abstraction-reads.Learnt,
+  of-application-reads.Asked,
+  of-application-reads.Learnt,
+)
+
+module _ (t : ℕ) where
+  -- the head in the arms that call again
+  abstraction-head : (c : lts.After-enum-told (claims t) (given t) own.Post)
+      → head-in (drop (c .before .before .before .before .before .args .at) (c .before .before .before .before .before .args .s .now)) ≡ Abstraction
+  abstraction-head c = sym (c .before .before .head-at .ensures) ∙ c .enum-told .given .1
+
+  application-head : (c : lts.After-enum-told3 (claims t) (given t) own.Post)
+      → head-in (drop (c .before .before .before .before .before .args .at) (c .before .before .before .before .before .args .s .now)) ≡ Application
+  application-head c = sym (c .before .before .head-at .ensures) ∙ c .enum-told3 .given .1
+
+  returns : lts.Need-returns (claims t) (given t) own.Post
+  returns c = no-room (c .if1 .taken)
+
+  survey-at-requires : lts.Need-survey-at-requires (claims t) (given t) own.Post
+  survey-at-requires c κs = (omega arith, (omega arith, body-begins (abstraction-head c) (c .before .before .before .before .before .pre .1 .1)))
+
+  returns-2 : lts.Need-returns-2 (claims t) (given t) own.Post
+  returns-2 c = body-over (abstraction-head (c .before .before .before)) (c .before .before .survey-at .ensures) (c .enum-told2 .given .1)
+
+  of-abstraction-requires : lts.Need-of-abstraction-requires (claims t) (given t) own.Post
+  of-abstraction-requires c κs =
+      let begins = body-begins (abstraction-head (c .before .before .before .before)) (c .before .before .before .before .before .before .before .before .before .pre .1 .1) in
+      let small = known begins (c .before .before .before .survey-at .ensures) (c .before .body .given .1) in
+      (omega arith, omega arith, omega arith)
+
+  survey-at-requires-2 : lts.Need-survey-at-requires-2 (claims t) (given t) own.Post
+  survey-at-requires-2 c κs = (omega arith, (omega arith, left-begins (application-head c) (c .before .before .before .before .before .pre .1 .1)))
+
+  returns-3 : lts.Need-returns-3 (claims t) (given t) own.Post
+  returns-3 c = left-over (application-head (c .before .before .before)) (c .before .before .survey-at2 .ensures) (c .enum-told4 .given .1)
+
+  survey-at-requires-3 : lts.Need-survey-at-requires-3 (claims t) (given t) own.Post
+  survey-at-requires-3 c κs =
+      let head = application-head (c .before .before .before .before) in
+      (omega arith, (omega arith, right-begins head (c .before .before .before .before .before .before .before .before .before .pre .1 .1) (c .before .before .before .survey-at2 .ensures) (c .before .left .given .1)))
+
+  returns-4 : lts.Need-returns-4 (claims t) (given t) own.Post
+  returns-4 c =
+      let head = application-head (c .before .before .before .before .before .before .before) in
+      right-over head (c .before .before .before .before .before .before .survey-at2 .ensures) (c .before .before .before .before .left .given .1) (c .before .before .survey-at3 .ensures) (c .enum-told5 .given .1)
+
+  of-application-requires : lts.Need-of-application-requires (claims t) (given t) own.Post
+  of-application-requires c κs =
+      let head = application-head (c .before .before .before .before .before .before .before .before) in
+      let stands = c .before .before .before .before .before .before .before .before .before .before .before .before .before .pre .1 .1 in
+      let left = known (left-begins head stands) (c .before .before .before .before .before .before .before .survey-at2 .ensures) (c .before .before .before .before .before .left .given .1) in
+      let begins = right-begins head stands (c .before .before .before .before .before .before .before .survey-at2 .ensures) (c .before .before .before .before .before .left .given .1) in
+      let right = known begins (c .before .before .before .survey-at3 .ensures) (c .before .right .given .1) in
+      (omega arith, (omega arith, omega arith))
+
+  returns-5 : lts.Need-returns-5 (claims t) (given t) own.Post
+  returns-5 c =
+      let head = sym (c .before .before .before .before .head-at .ensures) ∙ c .before .before .index .given .1 in
+      rw (c .of-variable .ensures) (at-variable (omega arith) head)
+
+  returns-6 : lts.Need-returns-6 (claims t) (given t) own.Post
+  returns-6 c =
+      let head = abstraction-head (c .before .before .before .before .before) in
+      rw (c .of-abstraction .ensures) (at-abstraction (omega arith) head (c .before .before .before .before .survey-at .ensures) (c .before .before .body .given .1))
+
+  returns-7 : lts.Need-returns-7 (claims t) (given t) own.Post
+  returns-7 c =
+      let head = application-head (c .before .before .before .before .before .before .before .before .before) in
+      let left = c .before .before .before .before .before .before .before .before .survey-at2 .ensures in
+      let right = c .before .before .before .before .survey-at3 .ensures in
+      rw (c .of-application .ensures)
+      (at-application (omega arith) head left (c .before .before .before .before .before .before .left .given .1) right (c .before .before .right .given .1))
+
+  returns-8 : lts.Need-returns-8 (claims t) (given t) own.Post
+  returns-8 c = at-nothing (sym (c .before .before .head-at .ensures) ∙ c .enum-told6 .given .1)
+
+pub +survey-at-spec : {M : Type 1} → statement M
++survey-at-spec = close μ λ t. lts.spec (claims t) (given t) own.Post
+    (returns t)
+    (λ c κs. search needs)
+    (λ c. search needs)
+    (λ c κs. search needs)
+    (λ c. search needs)
+    (λ c. search needs)
+    (λ c. search needs)
+    (λ c. search needs)
+    (λ c. search needs)
+    (survey-at-requires t)
+    (λ c. search needs)
+    (λ c. search needs)
+    (returns-2 t)
+    (of-abstraction-requires t)
+    (λ c. search needs)
+    (λ c. search needs)
+    (λ c. search needs)
+    (survey-at-requires-2 t)
+    (λ c. search needs)
+    (λ c. search needs)
+    (returns-3 t)
+    (λ c. search needs)
+    (survey-at-requires-3 t)
+    (λ c. search needs)
+    (λ c. search needs)
+    (returns-4 t)
+    (of-application-requires t)
+    (λ c. search needs)
+    (returns-5 t)
+    (returns-6 t)
+    (returns-7 t)
+    (returns-8 t)

@@ -1,0 +1,45 @@
+-- What the walks over bytes find: whether they are one whole term, and the facts of the term at an offset.
+use Prim.Native.Nat.{ℕ, _+_, _<_}
+use mathlib.Core.Path.{_≡_}
+use mathlib.Core.Bool.{Bool, true, false}
+use mathlib.Core.List.{List, _++_}
+use lib.Dec.{leb}
+use lib.ListN.{length, drop}
+use Rattle.calculus.specs.Term.{Term, height}
+use Rattle.calculus.specs.Refusal.{Answer, given, refused, not-a-term}
+use Rattle.calculus.specs.Bytes.{encode}
+use Rattle.calculus.proofs.Sizes.{size}
+use Rattle.term.specs.FactsOf.{facts-of}
+use Rattle.term.specs.declared.Scan.{Scan}
+use Rattle.term.specs.declared.Scan.the-variants as scan
+use Rattle.term.specs.declared.Survey.{Survey}
+use Rattle.term.specs.declared.Survey.the-variants as survey
+
+-- whether bytes decode, or the offset of refusal 10
+pub data Scans : Answer Term → Scan → Type 0 where
+  is-whole : {t : Term} → Scans (given t) scan.Whole
+  is-broken : {offset : ℕ} → Scans (refused (not-a-term offset)) (scan.Broken offset)
+
+-- the bytes of t stand at an offset of s
+pub record Stands (s : List ℕ) (at : ℕ) (t : Term) : Type 0 where
+  pub rest : List ℕ
+  pub bytes : drop at s ≡ encode t ++ rest
+
+-- some term stands at an offset, which is then within s
+pub record Begins (s : List ℕ) (at : ℕ) : Type 0 where
+  pub term : Term
+  pub stands : Stands s at term
+  pub inside : at < length s
+
+abbrev pub survey-if : Bool → (at depth : ℕ) → Term → Survey
+survey-if true at depth t = survey.Within (facts-of depth t) (at + size t)
+survey-if false at depth t = survey.Over
+
+-- the facts of a term at an offset and the offset after it, where its height is within the room
+unfoldable pub survey-of : (at depth room : ℕ) → Term → Survey
+unfolding height facts-of size
+survey-of at depth room t = survey-if (leb (height t) room) at depth t
+
+-- an answer is right for whatever term stands at the offset
+pub record Surveys (s : List ℕ) (at depth room : ℕ) (r : Survey) : Type 0 where
+  pub surveyed : (t : Term) → Stands s at t → r ≡ survey-of at depth room t
