@@ -6,7 +6,7 @@ use native.Mathlib.Omega.{arith}
 use borrow.Author.Tests.{lt-leb, le-leb}
 use Rattle.calculus.specs.Term.{Term, nodes, height}
 use Rattle.calculus.specs.Bounds.{most-height}
-use Rattle.calculus.specs.Refusal.{Answer, given, refused, not-a-term}
+use Rattle.calculus.specs.Refusal.{Answer, given, refused, _then_, not-a-term}
 use Rattle.calculus.specs.Bytes.{encode, decode}
 use Rattle.calculus.specs.Judging.{within}
 use Rattle.calculus.specs.Outcomes.{checked}
@@ -19,7 +19,9 @@ use Rattle.term.specs.declared.Scan.{Scan}
 use Rattle.term.specs.declared.Scan.the-variants as scan
 use Rattle.term.specs.declared.Survey.{Survey}
 use Rattle.term.specs.declared.Survey.the-variants.{Within, Over}
+use Rattle.term.specs.declared.Refusal.{Refusal}
 use Rattle.term.specs.declared.Refusal.the-variants.{TooHigh, TooManyNodes, NotATerm}
+use Rattle.term.specs.declared.Checked.{Checked}
 use Rattle.term.specs.declared.Checked.the-variants.{Whole, Refused}
 use Rattle.term.proofs.Places.{term-begins}
 use Rattle.term.proofs.Surveying.{says-within, says-over}
@@ -75,3 +77,28 @@ module _ (cap : ℕ) (s : List ℕ) {r : Scan} (scans : Scans (decode s) r) wher
           let (low, same, end) = says-within found (d .term) (d .stands) in-room in
           let enough : nodes (d .term) ≤ cap = rw same at few in
           rw (d .same, le-leb (height (d .term)) most-height low, le-leb (nodes (d .term)) cap enough, same)
+
+-- WHAT A CALLER LEARNS from the check's answer
+pub record IsWhole (cap : ℕ) (s : List ℕ) (f : Facts) : Type 0 where
+  pub term : Term
+  pub let-through : checked cap s ≡ given term
+  pub same : f ≡ facts-of 0 term
+
+module _ (cap : ℕ) (s : List ℕ) {r : Checked} (says : told r ≡ check-of cap s) where
+  pub check-whole : {f : Facts} → r ≡ Whole f → IsWhole cap s f
+  unfolding told check-of
+  check-whole {f} e = read (checked cap s) refl (rw e at says)
+    where
+      read : (a : Answer Term) → checked cap s ≡ a → given f ≡ (a then (λ t. given (facts-of 0 t))) → IsWhole cap s f
+      read (given t) d k = record { term = t; let-through = d; same = cc }
+      read (refused why) d k = let never : _≡_ {A = ℕ} 0 1 = cc in absurd (omega arith)
+
+  pub check-refused : {why : Refusal} → r ≡ Refused why → checked cap s ≡ refused (refusal-of why)
+  unfolding told check-of
+  check-refused {why} e = read (checked cap s) refl (rw e at says)
+    where
+      read : (a : Answer Term) → checked cap s ≡ a
+          → _≡_ {A = Answer Facts} (refused (refusal-of why)) (a then (λ t. given (facts-of 0 t)))
+          → checked cap s ≡ refused (refusal-of why)
+      read (given t) d k = let never : _≡_ {A = ℕ} 0 1 = cc in absurd (omega arith)
+      read (refused other) d k = let same : refusal-of why ≡ other = cc in rw same d

@@ -16,7 +16,7 @@ use Rattle.term.specs.Surveys.{Stands, Begins}
 use Rattle.term.specs.declared.Head.{Head}
 use Rattle.term.specs.declared.Head.the-variants.{Variable, Abstraction, Application, Nothing}
 
-abbrev head-of-term : Term → Head
+abbrev pub head-of-term : Term → Head
 head-of-term (var i) = Variable i
 head-of-term (lam b) = Abstraction
 head-of-term (app l r) = Application

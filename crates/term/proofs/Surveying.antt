@@ -90,7 +90,7 @@ left-known : {s : List ℕ} {at d room : ℕ} {r : Survey} {f : Facts} {mid : �
     → (h : head-in (drop at s) ≡ Application) → Surveys s (at + 1) d room r → r ≡ Within f mid
     → (t : Term) (st : Stands s at t)
     → let v = is-application t h st in
-        (height (v .left) ≤ room) × (f ≡ facts-of d (v .left)) × (mid ≡ at + 1 + size (v .left)) × Stands s mid (v .right)
+    (height (v .left) ≤ room) × (f ≡ facts-of d (v .left)) × (mid ≡ at + 1 + size (v .left)) × Stands s mid (v .right)
 left-known h left e t st =
     let v = is-application t h st in
     let (low, same, end) = says-within left (v .left) (v .left-at) e in

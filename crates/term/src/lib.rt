@@ -212,7 +212,8 @@ fn survey_at(s: &[u8], at: usize, depth: u64, room: u64) -> Survey
             next: at + 9,
         },
         Head::Abstraction => {
-            let Survey::Within { facts: body, next } = survey_at(s, at + 1, depth + 1, room - 1) else {
+            let Survey::Within { facts: body, next } = survey_at(s, at + 1, depth + 1, room - 1)
+            else {
                 return Survey::Over;
             };
             Survey::Within {

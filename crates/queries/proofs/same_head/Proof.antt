@@ -1,0 +1,26 @@
+-- `queries::same_head` meets its contract: kind and index tell heads apart.
+use mathlib.Core.Path.{refl, sym, ap, _∙_}
+use borrow.Author.Needs.{needs}
+use Rattle.queries.specs.Comparing.{kind-of, fails}
+use Rattle.queries.proofs.Comparing.{heads-decided}
+use Rattle.queries.proofs.same_head.Statement.{statement}
+use Rattle.queries.proofs.same_head.Tie as tie
+
+returns : tie.Need-returns
+returns c =
+    let kinds = sym (c .before .before .before .before .kind .ensures) ∙ c .before .before .if1 .taken ∙ c .before .before .before .kind2 .ensures in
+    rw (c .before .index .ensures, c .index2 .ensures) (heads-decided (c .before .before .before .before .before .args .a) (c .before .before .before .before .before .args .b) kinds _ refl)
+
+returns-2 : tie.Need-returns-2
+returns-2 c = fails (λ e. c .if1 .left (c .before .before .kind .ensures ∙ ap kind-of e ∙ sym (c .before .kind2 .ensures)))
+
+pub same-head-spec : {M : Type 1} → statement M
+same-head-spec =
+    tie.close
+    (tie.spec
+    (λ c κs. search needs)
+    (λ c κs. search needs)
+    (λ c κs. search needs)
+    (λ c κs. search needs)
+    returns
+    returns-2)

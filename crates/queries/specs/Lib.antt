@@ -1,0 +1,3 @@
+-- What the code of this crate answers, by the definitions of `calculus`.
+pub mod Answers
+pub mod Comparing
