@@ -28,8 +28,9 @@ use Rattle.term.specs.declared.Refusal.{Refusal}
 use Rattle.term.specs.declared.Checked.{Checked}
 use Rattle.term.specs.declared.Checked.the-variants.{Whole, Refused}
 use Rattle.term.proofs.Checking.{decoded-stands, check-whole, check-refused}
-use Rattle.term.proofs.Places.{head-of-term, head-at, is-variable, is-abstraction, is-application, is-something, term-begins}
-use Rattle.queries.specs.Comparing.{kind-of, index-of, Decides, holds, fails, Low, until-if, Compares}
+use Rattle.term.proofs.Places.{head-of-term, head-at, term-begins}
+use Rattle.term.proofs.Places.{is-variable, is-abstraction, is-application, is-something}
+use Rattle.queries.specs.Comparing.{kind-of, index-of, Decides, holds, fails, Low, until-if, Compares, agrees}
 use Rattle.queries.specs.declared.Same.{Same}
 use Rattle.queries.specs.declared.Same.the-variants.{Until, Differs}
 
@@ -192,21 +193,18 @@ module _ (s u : List ℕ) {r : Checked} (says : told r ≡ check-of most-nodes s
         let w = check-whole most-nodes s says e in
         rw (w .let-through, check-refused most-nodes u says′ k)
 
-    module _ {g : Facts} (k : q ≡ Whole g) (bytes : AllBytes s) (bytes′ : AllBytes u) {x : Same} (found : Compares s u 0 x)
+    -- the comparison is about the two terms that were let through
+    pub answers : {g : Facts} {x : Same} → q ≡ Whole g → AllBytes s → AllBytes u → Compares s u 0 x
+        → given (agrees x) ≡ equality-of s u
+    unfolding equality-of
+    answers k bytes bytes′ found =
+        let w = check-whole most-nodes s says e in
+        let z = check-whole most-nodes u says′ k in
+        let st = decoded-stands s bytes (checked-given s (w .let-through) .0) in
+        let su = decoded-stands u bytes′ (checked-given u (z .let-through) .0) in
+        let same-so = found .compared (w .term) (z .term) st su in
+        rw (w .let-through, z .let-through, same-so) (ap given (agrees-until (same (w .term) (z .term)) _))
       where
-        -- the comparison is about the two terms that were let through
-        answers : (b : Bool) → ((t v : Term) → x ≡ until-if (same t v) (0 + size t) → same t v ≡ b)
-            → given b ≡ equality-of s u
-        unfolding equality-of
-        answers b so =
-            let w = check-whole most-nodes s says e in
-            let z = check-whole most-nodes u says′ k in
-            let st = decoded-stands s bytes (checked-given s (w .let-through) .0) in
-            let su = decoded-stands u bytes′ (checked-given u (z .let-through) .0) in
-            rw (w .let-through, z .let-through, so (w .term) (z .term) (found .compared (w .term) (z .term) st su))
-
-        pub gives-same : {next : ℕ} → x ≡ Until next → given true ≡ equality-of s u
-        gives-same l = answers true (λ t v d. until-is (same t v) (sym l ∙ d) .0)
-
-        pub gives-different : x ≡ Differs → given false ≡ equality-of s u
-        gives-different l = answers false (λ t v d. differs-is (same t v) (0 + size t) (sym l ∙ d))
+        agrees-until : (b : Bool) (end : ℕ) → agrees (until-if b end) ≡ b
+        agrees-until true end = refl
+        agrees-until false end = refl

@@ -45,3 +45,7 @@ until-if false next = Differs
 -- an answer is right for whatever terms stand at the offset: whether they are the same, and then where they end
 pub record Compares (s u : List ℕ) (at : ℕ) (r : Same) : Type 0 where
   pub compared : (t v : Term) → Stands s at t → Stands u at v → r ≡ until-if (same t v) (at + size t)
+
+abbrev pub agrees : Same → Bool
+agrees (Until next) = true
+agrees Differs = false

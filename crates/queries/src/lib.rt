@@ -10,7 +10,7 @@ ghost use Rattle.calculus.specs.Outcomes.{nodes-of, height-of, max-depth-of, ma
 ghost use Rattle.calculus.specs.Outcomes.{has-free-variables-of, is-supercombinator-of, equality-of};
 ghost use Rattle.term.specs.Surveys.{Begins};
 ghost use Rattle.queries.specs.Answers.{number-told, truth-told, picked, number-of};
-ghost use Rattle.queries.specs.Comparing.{kind-of, index-of, Decides, Low, Compares};
+ghost use Rattle.queries.specs.Comparing.{kind-of, index-of, Decides, Low, Compares, agrees};
 
 // The answer of a query: a number or a refusal, a truth or a refusal.
 pub enum Number {
@@ -162,6 +162,15 @@ fn same_at(s: &[u8], u: &[u8], at: usize, room: u64) -> Same
     }
 }
 
+fn agree(found: Same) -> bool
+    ensures { λ r. ⌜ r ≡ agrees found ⌝ }
+{
+    match found {
+        Same::Until(_) => true,
+        Same::Differs => false,
+    }
+}
+
 // Whether two terms are the same; the first input's refusals come before the second's.
 pub fn equality(s: &[u8], u: &[u8]) -> Truth
     ensures { λ r. ⌜ truth-told r ≡ equality-of (now (s .entry)) (now (u .entry)) ⌝ }
@@ -170,10 +179,7 @@ pub fn equality(s: &[u8], u: &[u8]) -> Truth
         Checked::Refused(why) => Truth::Refused(why),
         Checked::Whole(_) => match term::check(MOST_NODES, u) {
             Checked::Refused(why) => Truth::Refused(why),
-            Checked::Whole(_) => match same_at(s, u, 0, MOST_HEIGHT) {
-                Same::Until(_) => Truth::Given(true),
-                Same::Differs => Truth::Given(false),
-            },
+            Checked::Whole(_) => Truth::Given(agree(same_at(s, u, 0, MOST_HEIGHT))),
         },
     }
 }

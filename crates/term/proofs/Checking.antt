@@ -1,30 +1,31 @@
 -- From the answers of the two walks to the check's: 10, then 7, then 9, or the facts of the whole term.
-use Prim.Native.Nat.{ℕ, _≤_, _<_}
+use Prim.Native.Nat.{ℕ}
 use mathlib.Core.Path.{_≡_, refl, sym, _∙_}
+use mathlib.Core.Bool.{Bool, true, false}
 use mathlib.Core.List.{List, [], append-nil}
+use lib.Dec.{leb}
 use native.Mathlib.Omega.{arith}
 use borrow.Author.Tests.{lt-leb, le-leb}
 use Rattle.calculus.specs.Term.{Term, nodes, height}
 use Rattle.calculus.specs.Bounds.{most-height}
-use Rattle.calculus.specs.Refusal.{Answer, given, refused, _then_, not-a-term}
+use Rattle.calculus.specs.Refusal.{Answer, given, refused, _then_, kept-if, not-a-term, too-many-nodes}
 use Rattle.calculus.specs.Bytes.{encode, decode}
 use Rattle.calculus.specs.Judging.{within}
 use Rattle.calculus.specs.Outcomes.{checked}
 use Rattle.calculus.proofs.Coding.{AllBytes, encode-decode}
 use Rattle.term.specs.FactsOf.{facts-of}
 use Rattle.term.specs.Surveys.{Scans, is-whole, is-broken, Stands, Begins, Surveys}
-use Rattle.term.specs.Answers.{refusal-of, told, check-of}
+use Rattle.term.specs.Answers.{refusal-of, told, judged, check-of}
 use Rattle.term.specs.declared.Facts.{Facts}
 use Rattle.term.specs.declared.Scan.{Scan}
 use Rattle.term.specs.declared.Scan.the-variants as scan
 use Rattle.term.specs.declared.Survey.{Survey}
-use Rattle.term.specs.declared.Survey.the-variants.{Within, Over}
 use Rattle.term.specs.declared.Refusal.{Refusal}
-use Rattle.term.specs.declared.Refusal.the-variants.{TooHigh, TooManyNodes, NotATerm}
+use Rattle.term.specs.declared.Refusal.the-variants.{NotATerm}
 use Rattle.term.specs.declared.Checked.{Checked}
 use Rattle.term.specs.declared.Checked.the-variants.{Whole, Refused}
 use Rattle.term.proofs.Places.{term-begins}
-use Rattle.term.proofs.Surveying.{says-within, says-over}
+use Rattle.term.proofs.Surveying.{Reaches, in-room, too-high, says}
 
 -- whole bytes are those of their term
 pub decoded-stands : (s : List ℕ) {t : Term} → AllBytes s → decode s ≡ given t → Stands s 0 t
@@ -53,30 +54,21 @@ module _ (cap : ℕ) (s : List ℕ) {r : Scan} (scans : Scans (decode s) r) wher
     pub whole-begins : Begins s 0
     whole-begins = term-begins (scanned-whole s bytes refl scans e .stands)
 
-    module _ {q : Survey} (found : Surveys s 0 0 most-height q) where
-      pub refuses-high : q ≡ Over → told (Refused TooHigh) ≡ check-of cap s
-      unfolding told refusal-of check-of checked within
-      refuses-high over =
-          let d = scanned-whole s bytes refl scans e in
-          let high = says-over found (d .term) (d .stands) over in
-          rw (d .same, lt-leb (height (d .term)) most-height high)
-
-      pub refuses-many : {f : Facts} {next : ℕ} → q ≡ Within f next → cap < f .nodes
-          → told (Refused TooManyNodes) ≡ check-of cap s
-      unfolding told refusal-of check-of checked within facts-of
-      refuses-many in-room many =
-          let d = scanned-whole s bytes refl scans e in
-          let (low, same, end) = says-within found (d .term) (d .stands) in-room in
-          let more : cap < nodes (d .term) = rw same at many in
-          rw (d .same, le-leb (height (d .term)) most-height low, lt-leb (nodes (d .term)) cap more)
-
-      pub gives-facts : {f : Facts} {next : ℕ} → q ≡ Within f next → f .nodes ≤ cap → told (Whole f) ≡ check-of cap s
-      unfolding told check-of checked within facts-of
-      gives-facts in-room few =
-          let d = scanned-whole s bytes refl scans e in
-          let (low, same, end) = says-within found (d .term) (d .stands) in-room in
-          let enough : nodes (d .term) ≤ cap = rw same at few in
-          rw (d .same, le-leb (height (d .term)) most-height low, le-leb (nodes (d .term)) cap enough, same)
+    pub judged-whole : {q : Survey} → Surveys s 0 0 most-height q → judged cap q ≡ check-of cap s
+    unfolding check-of checked within facts-of
+    judged-whole found =
+        let d = scanned-whole s bytes refl scans e in
+        by-reach d (says found (d .term) (d .stands))
+      where
+        by-reach : (d : Decoded s) {q : Survey} → Reaches 0 0 most-height (d .term) q → judged cap q ≡ check-of cap s
+        by-reach d (in-room low) =
+            rw (d .same, le-leb (height (d .term)) most-height low) (kept (leb (nodes (d .term)) cap))
+          where
+            kept : (b : Bool) → kept-if b too-many-nodes (facts-of 0 (d .term))
+                ≡ (kept-if b too-many-nodes (d .term) then (λ t. given (facts-of 0 t)))
+            kept true = refl
+            kept false = refl
+        by-reach d (too-high high) = rw (d .same, lt-leb (height (d .term)) most-height high)
 
 -- WHAT A CALLER LEARNS from the check's answer
 pub record IsWhole (cap : ℕ) (s : List ℕ) (f : Facts) : Type 0 where

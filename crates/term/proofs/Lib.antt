@@ -5,3 +5,4 @@ pub mod Scanning
 pub mod Places
 pub mod Surveying
 pub mod Checking
+pub mod Unique

@@ -43,7 +43,7 @@ nodes-size (lam b) = omega (arith, nodes-size b)
 nodes-size (app l r) = omega (arith, nodes-size l, nodes-size r)
 
 -- WITHIN THE ROOM OR OVER IT, exactly by the height
-data Reaches (at d room : ℕ) (t : Term) : Survey → Type 0 where
+pub data Reaches (at d room : ℕ) (t : Term) : Survey → Type 0 where
   in-room : height t ≤ room → Reaches at d room t (Within (facts-of d t) (at + size t))
   too-high : room < height t → Reaches at d room t Over
 
@@ -66,10 +66,10 @@ module _ (at d room : ℕ) (t : Term) where
 
 -- what a right answer says of the term that stands there
 module _ {s : List ℕ} {at d room : ℕ} {r : Survey} (right : Surveys s at d room r) (t : Term) (st : Stands s at t) where
-  says : Reaches at d room t r
+  pub says : Reaches at d room t r
   says = rw (right .surveyed t st) (reaches at d room t)
 
-  pub says-within : {f : Facts} {next : ℕ} → r ≡ Within f next
+  says-within : {f : Facts} {next : ℕ} → r ≡ Within f next
       → (height t ≤ room) × (f ≡ facts-of d t) × (next ≡ at + size t)
   says-within {f} {next} e = read says e
     where
@@ -78,7 +78,7 @@ module _ {s : List ℕ} {at d room : ℕ} {r : Survey} (right : Surveys s at d r
       read (in-room h) e = (h, cc, cc)
       read (too-high h) e = let never : _≡_ {A = ℕ} 0 1 = cc in absurd (omega arith)
 
-  pub says-over : r ≡ Over → room < height t
+  says-over : r ≡ Over → room < height t
   says-over e = read says e
     where
       read : {q : Survey} → Reaches at d room t q → q ≡ Over → room < height t

@@ -11,7 +11,7 @@ ghost use Rattle.calculus.specs.Bounds.{most-height, greatest-number};
 ghost use Rattle.calculus.specs.Term.{var};
 ghost use Rattle.term.specs.FactsOf.{facts-of, facts-under, facts-beside};
 ghost use Rattle.term.specs.Surveys.{Scans, Begins, Surveys};
-ghost use Rattle.term.specs.Answers.{told, check-of};
+ghost use Rattle.term.specs.Answers.{told, judged, check-of};
 
 // The thirteen refusals of document 01, which all crates share.
 pub enum Refusal {
@@ -247,21 +247,28 @@ pub enum Checked {
     Refused(Refusal),
 }
 
+// Refusal 7, then 9.
+fn judge(cap: u64, found: Survey) -> Checked
+    ensures { λ r. ⌜ told r ≡ judged cap found ⌝ }
+{
+    match found {
+        Survey::Over => Checked::Refused(Refusal::TooHigh),
+        Survey::Within { facts, next: _ } => {
+            if facts.nodes <= cap {
+                Checked::Whole(facts)
+            } else {
+                Checked::Refused(Refusal::TooManyNodes)
+            }
+        }
+    }
+}
+
 // Refusal 10, then 7, then 9 against a cap, which may be any number.
 pub fn check(cap: u64, s: &[u8]) -> Checked
     ensures { λ r. ⌜ told r ≡ check-of cap (now (s .entry)) ⌝ }
 {
     match scan_all(s) {
         Scan::Broken(at) => Checked::Refused(Refusal::NotATerm(at)),
-        Scan::Whole => match survey_at(s, 0, 0, MOST_HEIGHT) {
-            Survey::Over => Checked::Refused(Refusal::TooHigh),
-            Survey::Within { facts, next: _ } => {
-                if facts.nodes <= cap {
-                    Checked::Whole(facts)
-                } else {
-                    Checked::Refused(Refusal::TooManyNodes)
-                }
-            }
-        },
+        Scan::Whole => judge(cap, survey_at(s, 0, 0, MOST_HEIGHT)),
     }
 }

@@ -36,60 +36,92 @@ claims t =
 module _ (t : ℕ) where
   -- past the test the heads are the same
   heads-same : (c : lts.Else1 (claims t) (given t) own.Post)
-      → let a = c .before .before .before .before .before .before .args in head-in (drop (a .at) (a .s .now)) ≡ head-in (drop (a .at) (a .u .now))
+      → let a = c .before .before .before .before .before .before .args in
+      head-in (drop (a .at) (a .s .now)) ≡ head-in (drop (a .at) (a .u .now))
   heads-same c =
-      sym (c .before .before .before .head-at .ensures) ∙ decided-so (c .before .same-head .ensures) (c .if1 .left) ∙ c .before .before .head-at2 .ensures
+      let at-head-at2 = c .before .before in
+      let at-head-at = at-head-at2 .before in
+      let same = decided-so (c .before .same-head .ensures) (c .if1 .left) in
+      sym (at-head-at .head-at .ensures) ∙ same ∙ at-head-at2 .head-at2 .ensures
 
   returns : lts.Need-returns (claims t) (given t) own.Post
   returns c =
-      differ-here
-      (λ e. decided-not (c .before .same-head .ensures) (c .if1 .taken) (c .before .before .before .head-at .ensures ∙ e ∙ sym (c .before .before .head-at2 .ensures)))
+      let at-head-at2 = c .before .before in
+      let at-head-at = at-head-at2 .before in
+      let not-same = decided-not (c .before .same-head .ensures) (c .if1 .taken) in
+      differ-here (λ e. not-same (at-head-at .head-at .ensures ∙ e ∙ sym (at-head-at2 .head-at2 .ensures)))
 
   same-at-requires : lts.Need-same-at-requires (claims t) (given t) own.Post
   same-at-requires c κs =
-      let head = sym (c .before .before .before .before .before .head-at .ensures) ∙ c .enum-told2 .given .1 in
-      let other = sym (heads-same (c .before .before)) ∙ head in
-      (omega arith, (body-low (c .before .before .before .before .before .before .before .before .pre .1 .0) head, body-begins other (c .before .before .before .before .before .before .before .before .pre .1 .1)))
+      let at-if1 = c .before .before in
+      let at-head-at = at-if1 .before .before .before in
+      let start = at-head-at .before .before .before in
+      let head = sym (at-head-at .head-at .ensures) ∙ c .enum-told2 .given .1 in
+      let other = sym (heads-same at-if1) ∙ head in
+      (omega arith, (body-low (start .pre .1 .0) head, body-begins other (start .pre .1 .1)))
 
   same-at-requires-2 : lts.Need-same-at-requires-2 (claims t) (given t) own.Post
   same-at-requires-2 c κs =
-      let head = sym (c .before .before .before .before .before .head-at .ensures) ∙ c .enum-told3 .given .1 in
-      let other = sym (heads-same (c .before .before)) ∙ head in
-      (omega arith, (left-low (c .before .before .before .before .before .before .before .before .pre .1 .0) head, left-begins other (c .before .before .before .before .before .before .before .before .pre .1 .1)))
+      let at-if1 = c .before .before in
+      let at-head-at = at-if1 .before .before .before in
+      let start = at-head-at .before .before .before in
+      let head = sym (at-head-at .head-at .ensures) ∙ c .enum-told3 .given .1 in
+      let other = sym (heads-same at-if1) ∙ head in
+      (omega arith, (left-low (start .pre .1 .0) head, left-begins other (start .pre .1 .1)))
 
   returns-2 : lts.Need-returns-2 (claims t) (given t) own.Post
   returns-2 c =
-      let head = sym (c .before .before .before .before .before .before .before .before .head-at .ensures) ∙ c .before .before .before .enum-told3 .given .1 in
-      left-differs head (sym (heads-same (c .before .before .before .before .before)) ∙ head) (c .before .before .same-at2 .ensures) (c .enum-told4 .given .1)
+      let at-same-at2 = c .before .before in
+      let at-enum-told3 = at-same-at2 .before in
+      let at-if1 = at-enum-told3 .before .before in
+      let at-head-at = at-if1 .before .before .before in
+      let head = sym (at-head-at .head-at .ensures) ∙ at-enum-told3 .enum-told3 .given .1 in
+      left-differs head (sym (heads-same at-if1) ∙ head) (at-same-at2 .same-at2 .ensures) (c .enum-told4 .given .1)
 
   same-at-requires-3 : lts.Need-same-at-requires-3 (claims t) (given t) own.Post
   same-at-requires-3 c κs =
-      let head = sym (c .before .before .before .before .before .before .before .before .before .head-at .ensures) ∙ c .before .before .before .before .enum-told3 .given .1 in
-      let other = sym (heads-same (c .before .before .before .before .before .before)) ∙ head in
-      let left = c .before .before .before .same-at2 .ensures in
-      let low = c .before .before .before .before .before .before .before .before .before .before .before .before .pre .1 .0 in
-      let begins = c .before .before .before .before .before .before .before .before .before .before .before .before .pre .1 .1 in
+      let at-same-at2 = c .before .before .before in
+      let at-enum-told3 = at-same-at2 .before in
+      let at-if1 = at-enum-told3 .before .before in
+      let at-head-at = at-if1 .before .before .before in
+      let start = at-head-at .before .before .before in
+      let head = sym (at-head-at .head-at .ensures) ∙ at-enum-told3 .enum-told3 .given .1 in
+      let other = sym (heads-same at-if1) ∙ head in
+      let left = at-same-at2 .same-at2 .ensures in
+      let low = start .pre .1 .0 in
+      let begins = start .pre .1 .1 in
       let known = c .before .mid .given .1 in
       (omega arith, (right-low low begins head other left known, right-begins low begins head other left known))
 
   returns-3 : lts.Need-returns-3 (claims t) (given t) own.Post
   returns-3 c =
-      let head = sym (c .before .before .before .before .before .head-at .ensures) ∙ c .enum-told .given .1 in
-      same-variable head (sym (heads-same (c .before .before)) ∙ head)
+      let at-if1 = c .before .before in
+      let at-head-at = at-if1 .before .before .before in
+      let head = sym (at-head-at .head-at .ensures) ∙ c .enum-told .given .1 in
+      same-variable head (sym (heads-same at-if1) ∙ head)
 
   returns-4 : lts.Need-returns-4 (claims t) (given t) own.Post
   returns-4 c =
-      let head = sym (c .before .before .before .before .before .before .head-at .ensures) ∙ c .before .enum-told2 .given .1 in
-      same-abstraction head (sym (heads-same (c .before .before .before)) ∙ head) (c .same-at .ensures)
+      let at-if1 = c .before .before .before in
+      let at-head-at = at-if1 .before .before .before in
+      let head = sym (at-head-at .head-at .ensures) ∙ c .before .enum-told2 .given .1 in
+      same-abstraction head (sym (heads-same at-if1) ∙ head) (c .same-at .ensures)
 
   returns-5 : lts.Need-returns-5 (claims t) (given t) own.Post
   returns-5 c =
-      let head = sym (c .before .before .before .before .before .before .before .before .before .before .head-at .ensures) ∙ c .before .before .before .before .before .enum-told3 .given .1 in
-      let other = sym (heads-same (c .before .before .before .before .before .before .before)) ∙ head in
-      same-application head other (c .before .before .before .before .same-at2 .ensures) (c .before .before .mid .given .1) (c .same-at3 .ensures)
+      let at-mid = c .before .before in
+      let at-same-at2 = at-mid .before .before in
+      let at-enum-told3 = at-same-at2 .before in
+      let at-if1 = at-enum-told3 .before .before in
+      let at-head-at = at-if1 .before .before .before in
+      let head = sym (at-head-at .head-at .ensures) ∙ at-enum-told3 .enum-told3 .given .1 in
+      let other = sym (heads-same at-if1) ∙ head in
+      same-application head other (at-same-at2 .same-at2 .ensures) (at-mid .mid .given .1) (c .same-at3 .ensures)
 
   returns-6 : lts.Need-returns-6 (claims t) (given t) own.Post
-  returns-6 c = at-nothing (sym (c .before .before .before .before .before .head-at .ensures) ∙ c .enum-told5 .given .1)
+  returns-6 c =
+      let at-head-at = c .before .before .before .before .before in
+      at-nothing (sym (at-head-at .head-at .ensures) ∙ c .enum-told5 .given .1)
 
 pub +same-at-spec : {M : Type 1} → statement M
 +same-at-spec = close μ λ t. lts.spec (claims t) (given t) own.Post

@@ -24,16 +24,22 @@ number-asked MaxFreeIndex s = refl
 returns : tie.Need-returns
 unfolding number-told
 returns c =
-    let q = c .before .before .before .before .before .before .args .query in
-    let whole = asked (c .before .before .before .before .before .before .args .s .now) (c .before .before .before .before .check .ensures) (picked q) (c .before .before .facts .given .1) in
-    ap given (c .pick .ensures) ∙ whole ∙ number-asked q (c .before .before .before .before .before .before .args .s .now)
+    let at-facts = c .before .before in
+    let at-check = at-facts .before .before in
+    let start = at-check .before .before in
+    let q = start .args .query in
+    let whole = asked (start .args .s .now) (at-check .check .ensures) (picked q) (at-facts .facts .given .1) in
+    ap given (c .pick .ensures) ∙ whole ∙ number-asked q (start .args .s .now)
 
 returns-2 : tie.Need-returns-2
 unfolding number-told
 returns-2 c =
-    let q = c .before .before .before .before .before .args .query in
-    refused-alike (c .before .before .before .before .before .args .s .now) (c .before .before .before .check .ensures) (λ t. picked q (facts-of 0 t)) (c .before .why .given .1)
-    ∙ number-asked q (c .before .before .before .before .before .args .s .now)
+    let at-check = c .before .before .before in
+    let start = at-check .before .before in
+    let q = start .args .query in
+    let s = start .args .s .now in
+    refused-alike s (at-check .check .ensures) (λ t. picked q (facts-of 0 t)) (c .before .why .given .1)
+    ∙ number-asked q s
 
 pub ask-spec : {M : Type 1} → statement M
 ask-spec =

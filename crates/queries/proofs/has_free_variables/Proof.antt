@@ -10,11 +10,17 @@ use Rattle.queries.proofs.has_free_variables.Tie as tie
 
 returns : tie.Need-returns
 unfolding truth-told has-free-variables-of facts-of
-returns c = asked (c .before .before .before .before .before .args .s .now) (c .before .before .before .check .ensures) (λ f. f .free) (c .before .facts .given .1)
+returns c =
+    let at-check = c .before .before .before in
+    let start = at-check .before .before in
+    asked (start .args .s .now) (at-check .check .ensures) (λ f. f .free) (c .before .facts .given .1)
 
 returns-2 : tie.Need-returns-2
 unfolding truth-told has-free-variables-of
-returns-2 c = refused-alike (c .before .before .before .before .before .args .s .now) (c .before .before .before .check .ensures) has-free-variables (c .before .why .given .1)
+returns-2 c =
+    let at-check = c .before .before .before in
+    let start = at-check .before .before in
+    refused-alike (start .args .s .now) (at-check .check .ensures) has-free-variables (c .before .why .given .1)
 
 pub has-free-variables-spec : {M : Type 1} → statement M
 has-free-variables-spec =

@@ -21,11 +21,17 @@ opposite s says e =
 
 returns : tie.Need-returns
 unfolding truth-told
-returns c = opposite (c .before .before .before .before .before .args .s .now) (c .before .before .before .has-free-variables .ensures) (c .before .free .given .1)
+returns c =
+    let at-has-free-variables = c .before .before .before in
+    let start = at-has-free-variables .before .before in
+    opposite (start .args .s .now) (at-has-free-variables .has-free-variables .ensures) (c .before .free .given .1)
 
 returns-2 : tie.Need-returns-2
 unfolding truth-told
-returns-2 c = opposite (c .before .before .before .before .before .args .s .now) (c .before .before .before .has-free-variables .ensures) (c .before .why .given .1)
+returns-2 c =
+    let at-has-free-variables = c .before .before .before in
+    let start = at-has-free-variables .before .before in
+    opposite (start .args .s .now) (at-has-free-variables .has-free-variables .ensures) (c .before .why .given .1)
 
 pub is-supercombinator-spec : {M : Type 1} → statement M
 is-supercombinator-spec =

@@ -9,32 +9,47 @@ use Rattle.term.proofs.head_at.Statement.{statement}
 use Rattle.term.proofs.head_at.Tie as tie
 
 returns : tie.Need-returns
-returns c = let a = c .before .before .args in sym (head-past (a .s .now) (a .at) (c .if1 .taken))
+returns c =
+    let start = c .before .before in
+    sym (head-past (start .args .s .now) (start .args .at) (c .if1 .taken))
 
 returns-2 : tie.Need-returns-2
 unfolding head-of-kind
-returns-2 c = let a = c .before .before .before .before .args in sym (head-kind (a .s .now) (a .at) (c .before .before .if1 .left) (c .if2 .taken))
+returns-2 c =
+    let at-if1 = c .before .before in
+    let start = at-if1 .before .before in
+    sym (head-kind (start .args .s .now) (start .args .at) (at-if1 .if1 .left) (c .if2 .taken))
 
 returns-3 : tie.Need-returns-3
 unfolding head-of-kind
-returns-3 c = let a = c .before .before .before .before .before .args in sym (head-kind (a .s .now) (a .at) (c .before .before .before .if1 .left) (c .if3 .taken))
+returns-3 c =
+    let at-if1 = c .before .before .before in
+    let start = at-if1 .before .before in
+    sym (head-kind (start .args .s .now) (start .args .at) (at-if1 .if1 .left) (c .if3 .taken))
 
 returns-4 : tie.Need-returns-4
 returns-4 c =
-    let a = c .before .before .before .before .before .before .args in
-    sym (head-kind (a .s .now) (a .at) (c .before .before .before .before .if1 .left) refl ∙ no-kind _ _ (c .if4 .taken) (c .before .before .if2 .left) (c .before .if3 .left))
+    let at-if2 = c .before .before in
+    let at-if1 = at-if2 .before .before in
+    let start = at-if1 .before .before in
+    let kind = head-kind (start .args .s .now) (start .args .at) (at-if1 .if1 .left) refl in
+    sym (kind ∙ no-kind _ _ (c .if4 .taken) (at-if2 .if2 .left) (c .before .if3 .left))
 
 returns-5 : tie.Need-returns-5
 returns-5 c =
-    let a = c .before .before .before .before .before .before .before .args in
-    sym (head-kind (a .s .now) (a .at) (c .before .before .before .before .before .if1 .left) (c .before .if4 .left) ∙ head-cut (a .s .now) (a .at) (c .if5 .taken))
+    let at-if1 = c .before .before .before .before .before in
+    let start = at-if1 .before .before in
+    let kind = head-kind (start .args .s .now) (start .args .at) (at-if1 .if1 .left) (c .before .if4 .left) in
+    sym (kind ∙ head-cut (start .args .s .now) (start .args .at) (c .if5 .taken))
 
 returns-6 : tie.Need-returns-6
 returns-6 c =
-    let a = c .before .before .before .before .before .before .before .before .args in
-    let head = head-kind (a .s .now) (a .at) (c .before .before .before .before .before .before .if1 .left) (c .before .before .if4 .left) in
-    let index = head-variable (a .s .now) (a .at) (omega arith) in
-    rw (head, index, c .index-at .ensures, add-one)
+    let at-if4 = c .before .before in
+    let at-if1 = at-if4 .before .before .before .before in
+    let start = at-if1 .before .before in
+    let kind = head-kind (start .args .s .now) (start .args .at) (at-if1 .if1 .left) (at-if4 .if4 .left) in
+    let index = head-variable (start .args .s .now) (start .args .at) (omega arith) in
+    rw (kind, index, c .index-at .ensures, add-one)
 
 pub head-at-spec : {M : Type 1} → statement M
 head-at-spec =

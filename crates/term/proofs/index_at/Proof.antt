@@ -1,4 +1,4 @@
--- `term::index_at` meets its contract. The loop goes down from the last of the eight bytes: the value is the number of the bytes passed.
+-- `term::index_at` meets its contract: the loop goes down from the last byte, and has the number of the bytes passed.
 use Prim.Native.Nat.{suc, _+_, _-_, _^_, _≤_, _<_}
 use mathlib.Core.Path.{_≡_, refl}
 use borrow.Author.Needs.{needs}
@@ -11,7 +11,8 @@ use Rattle.term.proofs.index_at.Statement.{statement}
 use Rattle.term.proofs.index_at.Tie as tie
 
 abbrev Inv-loop : tie.InvT-loop
-Inv-loop s at value₀ place₀ value place = (place ≤ 8) × (value ≡ from-digits 256 (take (8 - place) (drop (at + place) s)))
+Inv-loop s at value₀ place₀ value place =
+    (place ≤ 8) × (value ≡ from-digits 256 (take (8 - place) (drop (at + place) s)))
 
 abbrev μ-loop : tie.MeasureT-loop
 μ-loop s at value₀ place₀ value place = place
@@ -42,7 +43,9 @@ shared-slice-read-wide c = omega arith
 
 add-value : tie.Need-add-value Inv-loop μ-loop
 add-value c =
-    omega (arith, small (c .before .before), c .before .shared-slice-known2 .given (c .before .before .before .before .before .args .at + (c .before .before .before .loop .place - 1)))
+    let turn = c .before .before .before in
+    let place = turn .before .before .args .at + (turn .loop .place - 1) in
+    omega (arith, small (c .before .before), c .before .shared-slice-known2 .given place)
 
 loop-less : tie.Need-loop-less Inv-loop μ-loop
 loop-less c = omega arith

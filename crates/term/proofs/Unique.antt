@@ -1,0 +1,65 @@
+-- ONE ANSWER: any two answers that a statement of this crate allows are the same.
+use Prim.Native.Nat.{ℕ}
+use mathlib.Core.Path.{_≡_, refl, sym, ap, _∙_}
+use mathlib.Core.List.{List}
+use lib.ListN.{drop}
+use Rattle.calculus.specs.Refusal as calculus
+use Rattle.calculus.specs.Refusal.{Answer, given, refused}
+use Rattle.term.specs.Heads.{head-in}
+use Rattle.term.specs.Answers.{refusal-of, told, check-of}
+use Rattle.term.specs.declared.Facts.{Facts}
+use Rattle.term.specs.declared.Head.{Head}
+use Rattle.term.specs.declared.Refusal.{Refusal}
+use Rattle.term.specs.declared.Refusal.the-variants.{OutsideBounds, TooLittleRoom, TextTooLong, OutsideDomain}
+use Rattle.term.specs.declared.Refusal.the-variants.{InvalidCharacter, UndefinedFreeVariable, TooHigh}
+use Rattle.term.specs.declared.Refusal.the-variants.{EmptyExpression, TooManyNodes, NotATerm, NotAbs}
+use Rattle.term.specs.declared.Refusal.the-variants.{IndexTooGreat, OutputTooShort}
+use Rattle.term.specs.declared.Checked.{Checked}
+use Rattle.term.specs.declared.Checked.the-variants.{Whole, Refused}
+
+-- what a refusal means tells which it is
+abbrev pub refusal-from : calculus.Refusal → Refusal
+refusal-from calculus.outside-bounds = OutsideBounds
+refusal-from calculus.too-little-room = TooLittleRoom
+refusal-from calculus.text-too-long = TextTooLong
+refusal-from (calculus.outside-domain offset) = OutsideDomain offset
+refusal-from (calculus.invalid-character place code) = InvalidCharacter place code
+refusal-from calculus.undefined-free-variable = UndefinedFreeVariable
+refusal-from calculus.too-high = TooHigh
+refusal-from calculus.empty-expression = EmptyExpression
+refusal-from calculus.too-many-nodes = TooManyNodes
+refusal-from (calculus.not-a-term offset) = NotATerm offset
+refusal-from calculus.not-abs = NotAbs
+refusal-from calculus.index-too-great = IndexTooGreat
+refusal-from (calculus.output-too-short needed) = OutputTooShort needed
+
+pub refusal-back : (why : Refusal) → refusal-from (refusal-of why) ≡ why
+unfolding refusal-of
+refusal-back OutsideBounds = refl
+refusal-back TooLittleRoom = refl
+refusal-back TextTooLong = refl
+refusal-back (OutsideDomain offset) = refl
+refusal-back (InvalidCharacter place code) = refl
+refusal-back UndefinedFreeVariable = refl
+refusal-back TooHigh = refl
+refusal-back EmptyExpression = refl
+refusal-back TooManyNodes = refl
+refusal-back (NotATerm offset) = refl
+refusal-back NotAbs = refl
+refusal-back IndexTooGreat = refl
+refusal-back (OutputTooShort needed) = refl
+
+abbrev checked-from : Answer Facts → Checked
+checked-from (given facts) = Whole facts
+checked-from (refused why) = Refused (refusal-from why)
+
+checked-back : (r : Checked) → checked-from (told r) ≡ r
+unfolding told
+checked-back (Whole facts) = refl
+checked-back (Refused why) = ap Refused (refusal-back why)
+
+pub one-check : (cap : ℕ) (s : List ℕ) {r q : Checked} → told r ≡ check-of cap s → told q ≡ check-of cap s → r ≡ q
+one-check cap s {r} {q} e k = sym (checked-back r) ∙ ap checked-from (e ∙ sym k) ∙ checked-back q
+
+pub one-head : (s : List ℕ) (at : ℕ) {r q : Head} → r ≡ head-in (drop at s) → q ≡ head-in (drop at s) → r ≡ q
+one-head s at e k = e ∙ sym k
