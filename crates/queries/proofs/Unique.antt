@@ -1,9 +1,9 @@
 -- ONE ANSWER: any two answers that a statement of this crate allows are the same, whatever is asked.
 use Prim.Native.Nat.{ℕ}
-use mathlib.Core.Path.{_≡_, refl, sym, ap, _∙_}
+use mathlib.Core.Path.{_≡_, refl, ap}
 use mathlib.Core.Bool.{Bool}
 use Rattle.calculus.specs.Refusal.{Answer, given, refused}
-use Rattle.term.proofs.Unique.{refusal-from, refusal-back}
+use Rattle.term.proofs.Unique.{refusal-from, refusal-back, one-by}
 use Rattle.queries.specs.Answers.{number-told, truth-told}
 use Rattle.queries.specs.declared.Number.{Number}
 use Rattle.queries.specs.declared.Number.the-variants as number
@@ -21,7 +21,7 @@ number-back (number.Refused why) = ap number.Refused (refusal-back why)
 
 -- nodes, height, max_depth, max_free_index
 pub one-number : (a : Answer ℕ) {r q : Number} → number-told r ≡ a → number-told q ≡ a → r ≡ q
-one-number a {r} {q} e k = sym (number-back r) ∙ ap number-from (e ∙ sym k) ∙ number-back q
+one-number a e k = one-by number-told number-from number-back e k
 
 abbrev truth-from : Answer Bool → Truth
 truth-from (given b) = truth.Given b
@@ -34,4 +34,4 @@ truth-back (truth.Refused why) = ap truth.Refused (refusal-back why)
 
 -- has_free_variables, is_supercombinator, equality
 pub one-truth : (a : Answer Bool) {r q : Truth} → truth-told r ≡ a → truth-told q ≡ a → r ≡ q
-one-truth a {r} {q} e k = sym (truth-back r) ∙ ap truth-from (e ∙ sym k) ∙ truth-back q
+one-truth a e k = one-by truth-told truth-from truth-back e k

@@ -17,7 +17,12 @@ use Rattle.term.specs.declared.Refusal.the-variants.{IndexTooGreat, Outp
 use Rattle.term.specs.declared.Checked.{Checked}
 use Rattle.term.specs.declared.Checked.the-variants.{Whole, Refused}
 
--- what a refusal means tells which it is
+-- what can be told back tells which it is
+pub one-by : {A B : Type 0} (to : A → B) (from : B → A) → ((x : A) → from (to x) ≡ x) → {x y : A} {b : B}
+    → to x ≡ b → to y ≡ b
+    → x ≡ y
+one-by to from back {x} {y} e k = sym (back x) ∙ ap from (e ∙ sym k) ∙ back y
+
 abbrev pub refusal-from : calculus.Refusal → Refusal
 refusal-from calculus.outside-bounds = OutsideBounds
 refusal-from calculus.too-little-room = TooLittleRoom
@@ -59,7 +64,7 @@ checked-back (Whole facts) = refl
 checked-back (Refused why) = ap Refused (refusal-back why)
 
 pub one-check : (cap : ℕ) (s : List ℕ) {r q : Checked} → told r ≡ check-of cap s → told q ≡ check-of cap s → r ≡ q
-one-check cap s {r} {q} e k = sym (checked-back r) ∙ ap checked-from (e ∙ sym k) ∙ checked-back q
+one-check cap s e k = one-by told checked-from checked-back e k
 
 pub one-head : (s : List ℕ) (at : ℕ) {r q : Head} → r ≡ head-in (drop at s) → q ≡ head-in (drop at s) → r ≡ q
 one-head s at e k = e ∙ sym k

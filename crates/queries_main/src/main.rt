@@ -1,0 +1,219 @@
+// Runs the queries on the crate's doc examples, on hostile bytes and at every bound; the file `stdout` has the answers.
+use libc::STDOUT_FILENO;
+use queries::Number;
+use queries::Truth;
+use term::Refusal;
+ghost use mathlib.Core.Path.{_≡_};
+ghost use lib.ListN.{length};
+
+fn say(words: &[u8]) {
+    io::write_all(STDOUT_FILENO, words);
+}
+
+fn number(n: u64) {
+    io::print_decimal(STDOUT_FILENO, n);
+}
+
+// Of the refusals only 10 has a value here: its offset.
+fn refused(why: Refusal) {
+    say(b"refused ");
+    match why {
+        Refusal::NotATerm(at) => {
+            say(b"10 at ");
+            number(at as u64);
+        }
+        Refusal::TooHigh => {
+            say(b"7");
+        }
+        Refusal::TooManyNodes => {
+            say(b"9");
+        }
+        _ => {
+            say(b"by what no query gives");
+        }
+    }
+}
+
+fn tell_number(name: &[u8], answer: Number) {
+    say(name);
+    match answer {
+        Number::Given(n) => {
+            number(n);
+        }
+        Number::Refused(why) => {
+            refused(why);
+        }
+    }
+    say(b"\n");
+}
+
+fn tell_truth(name: &[u8], answer: Truth) {
+    say(name);
+    match answer {
+        Truth::Given(so) => {
+            if so {
+                say(b"true");
+            } else {
+                say(b"false");
+            }
+        }
+        Truth::Refused(why) => {
+            refused(why);
+        }
+    }
+    say(b"\n");
+}
+
+// All six queries of one input.
+fn ask_all(what: &[u8], s: &[u8]) {
+    say(what);
+    say(b"\n");
+    tell_number(b"  nodes ", queries::nodes(s));
+    tell_number(b"  height ", queries::height(s));
+    tell_number(b"  max_depth ", queries::max_depth(s));
+    tell_number(b"  max_free_index ", queries::max_free_index(s));
+    tell_truth(b"  has_free_variables ", queries::has_free_variables(s));
+    tell_truth(b"  is_supercombinator ", queries::is_supercombinator(s));
+}
+
+// The doc examples of lambda_calculus for these queries; `is_isomorphic_to` is equality.
+fn doc_examples() {
+    say(b"-- the crate's doc examples\n");
+    let one = b"\x02\x01\x01\0\0\0\0\0\0\0";
+    let two = b"\x02\x01\x02\0\0\0\0\0\0\0";
+    ask_all(b"\\1", one);
+    ask_all(b"\\2", two);
+    tell_truth(b"equality of \\1 and \\2: ", queries::equality(one, two));
+    tell_truth(b"equality of \\1 and \\1: ", queries::equality(one, one));
+    ask_all(
+        b"\\1(\\1)",
+        b"\x02\x03\x01\x01\0\0\0\0\0\0\0\x02\x01\x01\0\0\0\0\0\0\0",
+    );
+    ask_all(
+        b"(\\2)(\\1)",
+        b"\x03\x02\x01\x02\0\0\0\0\0\0\0\x02\x01\x01\0\0\0\0\0\0\0",
+    );
+}
+
+// Index 0 is neither bound nor a free number; the greatest index; parts of unlike depth.
+fn indices() {
+    say(b"-- indices\n");
+    ask_all(b"[0]", b"\x01\0\0\0\0\0\0\0\0");
+    ask_all(b"\\[0]", b"\x02\x01\0\0\0\0\0\0\0\0");
+    ask_all(
+        b"[FFFFFFFFFFFFFFFF]",
+        b"\x01\xff\xff\xff\xff\xff\xff\xff\xff",
+    );
+    ask_all(
+        b"(\\[105])3",
+        b"\x03\x02\x01\x05\x01\0\0\0\0\0\0\x01\x03\0\0\0\0\0\0\0",
+    );
+}
+
+fn megabyte() -> [u8; 1048576]
+    ensures { λ r. ⌜ 1048576 ≡ length r ⌝ }
+{
+    [2; 1048576]
+}
+
+// Bytes that are not one whole term, with the offset; equality takes the first input's refusal first.
+fn broken() {
+    say(b"-- not one whole term\n");
+    let one = b"\x01\x01\0\0\0\0\0\0\0";
+    tell_number(b"no bytes: ", queries::nodes(b""));
+    tell_number(b"kind 0: ", queries::nodes(b"\0"));
+    tell_number(b"kind 4 in a part: ", queries::nodes(b"\x03\x02\x04"));
+    tell_number(
+        b"a variable cut short: ",
+        queries::nodes(b"\x02\x01\0\0\0\0\0\0\0"),
+    );
+    tell_number(
+        b"a part missing: ",
+        queries::nodes(b"\x03\x01\x01\0\0\0\0\0\0\0"),
+    );
+    tell_number(
+        b"a byte left over: ",
+        queries::nodes(b"\x01\x01\0\0\0\0\0\0\0\x02"),
+    );
+    tell_truth(
+        b"equality of 1 and \\, kind 4: ",
+        queries::equality(one, b"\x02\x04"),
+    );
+    tell_truth(
+        b"equality of nothing and \\, kind 4: ",
+        queries::equality(b"", b"\x02\x04"),
+    );
+    let deep = megabyte();
+    ask_all(b"a megabyte of byte 2", &deep);
+}
+
+fn ask_first(what: &[u8], buf: &[u8], n: usize) {
+    if n <= buf.len() {
+        let part = &buf[..n];
+        ask_all(what, part);
+    }
+}
+
+fn buffer() -> [u8; 68000]
+    ensures { λ r. ⌜ 68000 ≡ length r ⌝ }
+{
+    [0; 68000]
+}
+
+// 256 rows of 255 nodes, of which the first may differ, and a last twig.
+fn ask_rows(what: &[u8], first_lams: usize, last_lams: usize) {
+    let mut buf = buffer();
+    let second = samples::rows(&mut buf, 0, 1, first_lams, 0);
+    let last = samples::rows(&mut buf, second, 255, 253, 0);
+    let end = samples::twig(&mut buf, last, last_lams, 0, 1);
+    ask_first(what, &buf, end);
+}
+
+fn ask_twig(what: &[u8], lams: usize, apps: usize) {
+    let mut buf = buffer();
+    let end = samples::twig(&mut buf, 0, lams, apps, 1);
+    ask_first(what, &buf, end);
+}
+
+// The largest terms, and one past each bound: 7 comes before 9.
+fn bounds() {
+    say(b"-- the bounds\n");
+    ask_rows(b"65,536 nodes, height 512", 253, 255);
+    ask_rows(b"65,537 nodes, height 512", 254, 255);
+    ask_rows(b"65,536 nodes, height 513", 252, 256);
+    ask_rows(b"65,537 nodes, height 513", 253, 256);
+    ask_twig(b"511 abstractions over 1", 511, 0);
+    ask_twig(b"512 abstractions over 1", 512, 0);
+    ask_twig(b"511 applications, one in another", 0, 511);
+    ask_twig(b"512 applications, one in another", 0, 512);
+}
+
+fn compare_first(what: &[u8], buf: &[u8], other: &[u8], n: usize) {
+    if n <= buf.len() {
+        if n <= other.len() {
+            let part = &buf[..n];
+            let other_part = &other[..n];
+            tell_truth(what, queries::equality(part, other_part));
+        }
+    }
+}
+
+// The largest term, and the same with another last variable.
+fn compare_rows(what: &[u8], index: u8) {
+    let mut buf = buffer();
+    let last = samples::rows(&mut buf, 0, 256, 253, 0);
+    let end = samples::twig(&mut buf, last, 255, 0, 1);
+    let mut other = buffer();
+    samples::rows(&mut other, 0, 256, 253, 0);
+    samples::twig(&mut other, last, 255, 0, index);
+    compare_first(what, &buf, &other, end);
+}
+
+fn main() {
+    doc_examples();
+    indices();
+    broken();
+    bounds();
+    compare_rows(b"equality of the largest term and itself: ", 1);
+    compare_rows(b"equality of it and one other last index: ", 2);
+}
