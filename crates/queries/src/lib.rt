@@ -176,9 +176,9 @@ pub fn equality(s: &[u8], u: &[u8]) -> Truth
     ensures { λ r. ⌜ truth-told r ≡ equality-of (now (s .entry)) (now (u .entry)) ⌝ }
 {
     match term::check(MOST_NODES, s) {
-        Checked::Refused(why) => Truth::Refused(why),
+        Checked::Refused(first) => Truth::Refused(first),
         Checked::Whole(_) => match term::check(MOST_NODES, u) {
-            Checked::Refused(why) => Truth::Refused(why),
+            Checked::Refused(second) => Truth::Refused(second),
             Checked::Whole(_) => Truth::Given(agree(same_at(s, u, 0, MOST_HEIGHT))),
         },
     }

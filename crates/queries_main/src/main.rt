@@ -147,13 +147,6 @@ fn broken() {
     ask_all(b"a megabyte of byte 2", &deep);
 }
 
-fn ask_first(what: &[u8], buf: &[u8], n: usize) {
-    if n <= buf.len() {
-        let part = &buf[..n];
-        ask_all(what, part);
-    }
-}
-
 fn buffer() -> [u8; 68000]
     ensures { λ r. ⌜ 68000 ≡ length r ⌝ }
 {
@@ -166,13 +159,13 @@ fn ask_rows(what: &[u8], first_lams: usize, last_lams: usize) {
     let second = samples::rows(&mut buf, 0, 1, first_lams, 0);
     let last = samples::rows(&mut buf, second, 255, 253, 0);
     let end = samples::twig(&mut buf, last, last_lams, 0, 1);
-    ask_first(what, &buf, end);
+    ask_all(what, samples::first(&buf, end));
 }
 
 fn ask_twig(what: &[u8], lams: usize, apps: usize) {
     let mut buf = buffer();
     let end = samples::twig(&mut buf, 0, lams, apps, 1);
-    ask_first(what, &buf, end);
+    ask_all(what, samples::first(&buf, end));
 }
 
 // The largest terms, and one past each bound: 7 comes before 9.
@@ -188,16 +181,6 @@ fn bounds() {
     ask_twig(b"512 applications, one in another", 0, 512);
 }
 
-fn compare_first(what: &[u8], buf: &[u8], other: &[u8], n: usize) {
-    if n <= buf.len() {
-        if n <= other.len() {
-            let part = &buf[..n];
-            let other_part = &other[..n];
-            tell_truth(what, queries::equality(part, other_part));
-        }
-    }
-}
-
 // The largest term, and the same with another last variable.
 fn compare_rows(what: &[u8], index: u8) {
     let mut buf = buffer();
@@ -206,7 +189,8 @@ fn compare_rows(what: &[u8], index: u8) {
     let mut other = buffer();
     samples::rows(&mut other, 0, 256, 253, 0);
     samples::twig(&mut other, last, 255, 0, index);
-    compare_first(what, &buf, &other, end);
+    let same = queries::equality(samples::first(&buf, end), samples::first(&other, end));
+    tell_truth(what, same);
 }
 
 fn main() {

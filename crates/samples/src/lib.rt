@@ -11,7 +11,7 @@ fn put(buf: &mut [u8], at: usize, b: u8) -> usize {
 }
 
 // A variable of a small index, in its nine bytes.
-fn variable(buf: &mut [u8], at: usize, index: u8) -> usize {
+pub fn variable(buf: &mut [u8], at: usize, index: u8) -> usize {
     let mut to = put(buf, at, 1);
     to = put(buf, to, index);
     to = put(buf, to, 0);
@@ -50,4 +50,13 @@ pub fn rows(buf: &mut [u8], at: usize, count: usize, lams: usize, apps: usize) -
         to = twig(buf, to, lams, apps, 1);
     }
     to
+}
+
+// The first bytes of a buffer, or all of it where it has no more.
+pub fn first(buf: &[u8], count: usize) -> &[u8] {
+    if count <= buf.len() {
+        &buf[..count]
+    } else {
+        buf
+    }
 }

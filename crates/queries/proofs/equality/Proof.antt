@@ -30,7 +30,7 @@ unfolding truth-told
 returns c =
     let at-check = c .before .before .before in
     let start = at-check .before .before .before in
-    refuses-first (start .args .s .now) (start .args .u .now) (at-check .check .ensures) (c .before .why .given .1)
+    refuses-first (start .args .s .now) (start .args .u .now) (at-check .check .ensures) (c .before .first .given .1)
 
 returns-2 : tie.Need-returns-2
 unfolding truth-told
@@ -40,7 +40,7 @@ returns-2 c =
     let at-check = at-enum-told .before .before in
     let start = at-check .before .before .before in
     refuses-second (start .args .s .now) (start .args .u .now) (at-check .check .ensures)
-    (at-enum-told .enum-told .given .1) (at-check2 .check2 .ensures) (c .before .why2 .given .1)
+    (at-enum-told .enum-told .given .1) (at-check2 .check2 .ensures) (c .before .second .given .1)
 
 returns-3 : tie.Need-returns-3
 unfolding truth-told

@@ -1,0 +1,121 @@
+// Times the queries at 1,000, 10,000 and 65,536 nodes and writes the times to standard error; standard output is empty.
+use libc::STDERR_FILENO;
+use queries::Number;
+use queries::Truth;
+ghost use mathlib.Core.Path.{_≡_};
+ghost use Prim.Native.Nat.{_≤_};
+ghost use lib.ListN.{length};
+
+fn say(words: &[u8]) {
+    io::write_all(STDERR_FILENO, words);
+}
+
+fn number(n: u64) {
+    io::print_decimal(STDERR_FILENO, n);
+}
+
+fn buffer() -> [u8; 330000]
+    ensures { λ r. ⌜ 330000 ≡ length r ⌝ }
+{
+    [0; 330000]
+}
+
+fn positive(t: i64) -> u64 {
+    if t > 0 { t as u64 } else { 0 }
+}
+
+fn microseconds(from: u64, to: u64) -> u64 {
+    if from < to { to - from } else { 0 }
+}
+
+// What is timed.
+enum Asked {
+    Nodes,
+    Equality,
+}
+
+fn nodes_are(s: &[u8], nodes: u64) -> bool {
+    match queries::nodes(s) {
+        Number::Given(n) => n == nodes,
+        Number::Refused(_) => false,
+    }
+}
+
+fn equals_itself(s: &[u8]) -> bool {
+    match queries::equality(s, s) {
+        Truth::Given(same) => same,
+        Truth::Refused(_) => false,
+    }
+}
+
+fn answers_right(asked: Asked, s: &[u8], nodes: u64) -> bool {
+    match asked {
+        Asked::Nodes => nodes_are(s, nodes),
+        Asked::Equality => equals_itself(s),
+    }
+}
+
+fn one_if(b: bool) -> u64
+    ensures { λ r. ⌜ r ≤ 1 ⌝ }
+{
+    if b { 1 } else { 0 }
+}
+
+// The last variable is written anew before each call, so that no call can be left out.
+fn rewrite(buf: &mut [u8], end: usize) {
+    if 9 <= end {
+        samples::variable(buf, end - 9, 1);
+    }
+}
+
+// How many of so many calls answer right.
+fn right_answers(asked: Asked, buf: &mut [u8], end: usize, nodes: u64, calls: u64) -> u64 {
+    let mut right: u64 = 0;
+    let mut i: u64 = 0;
+    while i < calls {
+        rewrite(buf, end);
+        right += one_if(answers_right(asked, samples::first(buf, end), nodes));
+        i += 1;
+    }
+    right
+}
+
+fn time(asked: Asked, what: &[u8], buf: &mut [u8], end: usize, nodes: u64, calls: u64) {
+    let from = positive(libc::clock());
+    let right = right_answers(asked, buf, end, nodes, calls);
+    let to = positive(libc::clock());
+    say(what);
+    number(right);
+    say(b" right answers in ");
+    number(microseconds(from, to));
+    say(b" microseconds\n");
+}
+
+// A term of rows of 255 nodes and a last twig with so many abstractions, asked so often.
+fn time_rows(nodes: u64, count: usize, lams: usize, apps: usize, last_lams: usize, calls: u64) {
+    let mut buf = buffer();
+    let last = samples::rows(&mut buf, 0, count, lams, apps);
+    let end = samples::twig(&mut buf, last, last_lams, apps, 1);
+    number(nodes);
+    say(b" nodes\n");
+    time(Asked::Nodes, b"  nodes: ", &mut buf, end, nodes, calls);
+    time(
+        Asked::Equality,
+        b"  equality: ",
+        &mut buf,
+        end,
+        nodes,
+        calls,
+    );
+}
+
+fn main() {
+    say(b"abstractions under applications\n");
+    time_rows(1000, 3, 253, 0, 234, 1639);
+    time_rows(10000, 39, 253, 0, 54, 164);
+    time_rows(65536, 256, 253, 0, 255, 25);
+    say(b"applications of variables\n");
+    time_rows(1000, 2, 1, 126, 237, 1639);
+    time_rows(10000, 38, 1, 126, 57, 164);
+    time_rows(65536, 256, 1, 126, 3, 25);
+}
