@@ -143,8 +143,14 @@ fn broken() {
         b"equality of nothing and \\, kind 4: ",
         queries::equality(b"", b"\x02\x04"),
     );
-    let deep = megabyte();
-    ask_all(b"a megabyte of byte 2", &deep);
+}
+
+// Bytes that nest a million deep take no stack: a term that never ends, and one that does.
+fn deep() {
+    let mut bytes = megabyte();
+    ask_all(b"a megabyte of byte 2", &bytes);
+    samples::variable(&mut bytes, 1048567, 1);
+    ask_all(b"a megabyte of byte 2 that ends in a variable", &bytes);
 }
 
 fn buffer() -> [u8; 68000]
@@ -197,6 +203,7 @@ fn main() {
     doc_examples();
     indices();
     broken();
+    deep();
     bounds();
     compare_rows(b"equality of the largest term and itself: ", 1);
     compare_rows(b"equality of it and one other last index: ", 2);
