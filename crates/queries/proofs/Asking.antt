@@ -1,9 +1,7 @@
 -- From the check's answer to a query's, for whatever is asked of the facts.
 use Prim.Native.Nat.{ℕ}
 use mathlib.Core.Path.{_≡_, refl, ap, _∙_}
-use mathlib.Core.Bool.{Bool, not}
 use mathlib.Core.List.{List}
-use native.Mathlib.Omega.{arith}
 use Rattle.calculus.specs.Term.{Term}
 use Rattle.calculus.specs.Bounds.{most-nodes}
 use Rattle.calculus.specs.Refusal.{Answer, given, refused, _then_}

@@ -1,13 +1,13 @@
 -- Two terms compared from the root, node by node, at one offset of each input.
-use Prim.Native.Nat.{ℕ, zero, suc, _+_, _-_, _≤_, _<_}
+use Prim.Native.Nat.{ℕ, zero, suc, _+_, _-_, _≤_}
 use mathlib.Core.Path.{_≡_, refl, sym, ap, ap₂, _∙_}
 use mathlib.Core.Bool.{Bool, true, false, not, true≢false, false≢true}
 use mathlib.Core.List.{List}
 use native.Mathlib.Omega.{arith}
 use lib.Dec.{eqb}
-use lib.ListN.{length, drop}
+use lib.ListN.{drop}
 use borrow.Author.Tests.{eqb-true, eqb-false}
-use Rattle.calculus.specs.Term.{Term, var, lam, app, height}
+use Rattle.calculus.specs.Term.{Term, var, height}
 use Rattle.calculus.specs.Bounds.{most-nodes, most-height}
 use Rattle.calculus.specs.Refusal.{given, refused}
 use Rattle.calculus.specs.Outcomes.{equality-of}

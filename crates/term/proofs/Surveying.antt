@@ -1,6 +1,6 @@
 -- The walk that finds out the facts of a term, node by node, for all queries at once.
-use Prim.Native.Nat.{ℕ, suc, _+_, _-_, _≤_, _<_, max}
-use mathlib.Core.Path.{_≡_, refl, sym, ap, ap₂, _∙_}
+use Prim.Native.Nat.{ℕ, _+_, _-_, _≤_, _<_}
+use mathlib.Core.Path.{_≡_, sym, ap₂}
 use mathlib.Core.List.{List}
 use native.Mathlib.Omega.{arith}
 use native.Mathlib.Decide.{decLe}
@@ -8,7 +8,7 @@ use native.Mathlib.Numerals.{add-one}
 use lib.ListN.{length, drop}
 use borrow.Author.Tests.{le-leb, lt-leb}
 use Rattle.calculus.specs.Term.{Term, var, lam, app, nodes, height}
-use Rattle.calculus.specs.Queries.{max-depth, has-free, max-free}
+use Rattle.calculus.specs.Queries.{max-depth}
 use Rattle.calculus.proofs.Measures.{height-positive}
 use Rattle.calculus.proofs.Sizes.{size}
 use Rattle.term.specs.Heads.{head-in}

@@ -2,13 +2,13 @@
 use calculus::MOST_HEIGHT;
 ghost use mathlib.Core.Path.{_≡_};
 ghost use mathlib.Core.Bool.{not, _||_};
-ghost use Prim.Native.Nat.{ℕ, _+_, _-_, _≤_, _<_, max};
+ghost use Prim.Native.Nat.{_+_, _-_, _≤_, _<_, max};
 ghost use lib.ListN.{length, take, drop};
+ghost use Rattle.calculus.specs.Term.{var};
 ghost use Rattle.calculus.specs.Numbers.{between, from-digits};
+ghost use Rattle.calculus.specs.Bounds.{most-height, greatest-number};
 ghost use Rattle.calculus.specs.Bytes.{decode};
 ghost use Rattle.term.specs.Heads.{head-in};
-ghost use Rattle.calculus.specs.Bounds.{most-height, greatest-number};
-ghost use Rattle.calculus.specs.Term.{var};
 ghost use Rattle.term.specs.FactsOf.{facts-of, facts-under, facts-beside};
 ghost use Rattle.term.specs.Surveys.{Scans, Begins, Surveys};
 ghost use Rattle.term.specs.Answers.{told, judged, check-of};
@@ -117,7 +117,8 @@ fn scan_all(s: &[u8]) -> Scan
     }
 }
 
-// All that the queries ask of a term under some abstractions, found out by one walk.
+// All that the queries ask of a term under some abstractions, found out by one walk: its nodes, its height, the most
+// abstractions on a path, whether some index is 0 or free, and the greatest of index minus depth.
 pub struct Facts {
     pub nodes: u64,
     pub height: u64,

@@ -3,7 +3,7 @@ use mathlib.Core.Path.{_≡_, refl, ap, _∙_}
 use mathlib.Core.List.{List}
 use Prim.Native.Nat.{ℕ}
 use borrow.Author.Needs.{needs}
-use Rattle.calculus.specs.Refusal.{Answer, given}
+use Rattle.calculus.specs.Refusal.{given}
 use Rattle.calculus.specs.Outcomes.{query-of, nodes-of, height-of, max-depth-of, max-free-index-of}
 use Rattle.term.specs.FactsOf.{facts-of}
 use Rattle.queries.specs.Answers.{number-told, picked, number-of}

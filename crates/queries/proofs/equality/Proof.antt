@@ -1,5 +1,4 @@
 -- `queries::equality` meets its contract: the first input's refusals, the second's, then the comparison.
-use native.Mathlib.Omega.{arith}
 use borrow.Author.Needs.{needs}
 use Rattle.calculus.proofs.Coding.{AllBytes}
 use Rattle.queries.specs.Answers.{truth-told}

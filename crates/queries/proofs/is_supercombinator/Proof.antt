@@ -1,10 +1,10 @@
 -- `queries::is_supercombinator` meets its contract: it answers the opposite, and refuses alike.
 use mathlib.Core.Path.{_≡_, sym, ap, _∙_}
-use mathlib.Core.Bool.{Bool, not}
+use mathlib.Core.Bool.{not}
 use mathlib.Core.List.{List}
 use Prim.Native.Nat.{ℕ}
 use borrow.Author.Needs.{needs}
-use Rattle.calculus.specs.Refusal.{Answer, given, _then_}
+use Rattle.calculus.specs.Refusal.{given, _then_}
 use Rattle.calculus.specs.Queries.{has-free-variables}
 use Rattle.calculus.specs.Outcomes.{has-free-variables-of, is-supercombinator-of}
 use Rattle.queries.specs.Answers.{truth-told}

@@ -78,7 +78,7 @@ module _ (t : ℕ) where
   of-abstraction-requires c κs =
       let at-survey-at = c .before .before .before in
       let start = at-survey-at .before .before .before .before .before .before in
-      let begins = body-begins (abstraction-head (c .before .before .before .before)) (start .pre .1 .1) in
+      let begins = body-begins (abstraction-head (at-survey-at .before)) (start .pre .1 .1) in
       let small = known begins (at-survey-at .survey-at .ensures) (c .before .body .given .1) in
       (omega arith, omega arith, omega arith)
 
@@ -97,7 +97,7 @@ module _ (t : ℕ) where
   survey-at-requires-3 c κs =
       let at-survey-at2 = c .before .before .before in
       let start = at-survey-at2 .before .before .before .before .before .before in
-      let head = application-head (c .before .before .before .before) in
+      let head = application-head (at-survey-at2 .before) in
       let left = at-survey-at2 .survey-at2 .ensures in
       (omega arith, (omega arith, right-begins head (start .pre .1 .1) left (c .before .left .given .1)))
 
@@ -106,7 +106,7 @@ module _ (t : ℕ) where
       let at-survey-at3 = c .before .before in
       let at-left = at-survey-at3 .before .before in
       let at-survey-at2 = at-left .before .before in
-      let head = application-head (c .before .before .before .before .before .before .before) in
+      let head = application-head (at-survey-at2 .before) in
       let left = at-survey-at2 .survey-at2 .ensures in
       let right = at-survey-at3 .survey-at3 .ensures in
       right-over head left (at-left .left .given .1) right (c .enum-told5 .given .1)
@@ -117,7 +117,7 @@ module _ (t : ℕ) where
       let at-left = at-survey-at3 .before .before in
       let at-survey-at2 = at-left .before .before in
       let start = at-survey-at2 .before .before .before .before .before .before in
-      let head = application-head (c .before .before .before .before .before .before .before .before) in
+      let head = application-head (at-survey-at2 .before) in
       let stands = start .pre .1 .1 in
       let left = known (left-begins head stands) (at-survey-at2 .survey-at2 .ensures) (at-left .left .given .1) in
       let begins = right-begins head stands (at-survey-at2 .survey-at2 .ensures) (at-left .left .given .1) in
@@ -135,7 +135,7 @@ module _ (t : ℕ) where
   returns-6 c =
       let at-body = c .before .before in
       let at-survey-at = at-body .before .before in
-      let head = abstraction-head (c .before .before .before .before .before) in
+      let head = abstraction-head (at-survey-at .before) in
       let body = at-survey-at .survey-at .ensures in
       rw (c .of-abstraction .ensures) (at-abstraction (omega arith) head body (at-body .body .given .1))
 
@@ -145,7 +145,7 @@ module _ (t : ℕ) where
       let at-survey-at3 = at-right .before .before in
       let at-left = at-survey-at3 .before .before in
       let at-survey-at2 = at-left .before .before in
-      let head = application-head (c .before .before .before .before .before .before .before .before .before) in
+      let head = application-head (at-survey-at2 .before) in
       let left = at-survey-at2 .survey-at2 .ensures in
       let right = at-survey-at3 .survey-at3 .ensures in
       rw (c .of-application .ensures)

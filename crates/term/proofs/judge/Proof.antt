@@ -1,5 +1,5 @@
 -- `term::judge` meets its contract.
-use mathlib.Core.Path.{sym, ap, _∙_}
+use mathlib.Core.Path.{sym, ap}
 use borrow.Author.Needs.{needs}
 use borrow.Author.Tests.{le-leb, lt-leb}
 use Rattle.term.specs.Answers.{refusal-of, told, judged}

@@ -1,8 +1,8 @@
 -- `term::scan_all` meets its contract: the terms owed from `at` on decide the answer, and each node moves `at` forward.
 use Prim.Native.Nat.{_+_, _-_}
-use mathlib.Core.Path.{_≡_, sym, _∙_}
+use mathlib.Core.Path.{sym, _∙_}
 use native.Mathlib.Omega.{arith}
-use lib.ListN.{length, drop}
+use lib.ListN.{length}
 use borrow.Author.Needs.{needs}
 use Rattle.term.proofs.Scanning.{Scanned, begins, passes-variable, passes-abstraction, passes-application}
 use Rattle.term.proofs.Scanning.{misses, ends, stops}
