@@ -141,19 +141,19 @@ module _ {s u : List ℕ} {at : ℕ} where
 pub stands-low : {s : List ℕ} {at room : ℕ} {t : Term} → Stands s at t → height t ≤ room → Low s at room
 stands-low {t = t} st low =
     let positive = height-positive t in
-    record { term = t; stands = st; low = low; inside = term-begins st .inside; some-room = omega arith }
+    record { begins = record { term = t; stands = st; inside = term-begins st .inside }; low = low; some-room = omega arith }
 
 module _ {s : List ℕ} {at room : ℕ} (st : Low s at room) where
   pub body-low : head-in (drop at s) ≡ Abstraction → Low s (at + 1) (room - 1)
   unfolding height
   body-low h =
-      let x = is-abstraction (st .term) h (st .stands) in
+      let x = is-abstraction (st .begins .term) h (st .begins .stands) in
       stands-low (x .body-at) (omega (arith, st .low, ap height (x .same)))
 
   pub left-low : head-in (drop at s) ≡ Application → Low s (at + 1) (room - 1)
   unfolding height
   left-low h =
-      let x = is-application (st .term) h (st .stands) in
+      let x = is-application (st .begins .term) h (st .begins .stands) in
       stands-low (x .left-at) (omega (arith, st .low, ap height (x .same)))
 
   module _ {u : List ℕ} (su : Begins u at) {l : Same} {mid : ℕ} (h : head-in (drop at s) ≡ Application)
@@ -161,13 +161,13 @@ module _ {s : List ℕ} {at room : ℕ} (st : Low s at room) where
     pub right-low : Low s mid (room - 1)
     unfolding height
     right-low =
-        let x = is-application (st .term) h (st .stands) in
-        let (alike, end, rs, ru) = left-same h k left e (st .term) (su .term) (st .stands) (su .stands) in
+        let x = is-application (st .begins .term) h (st .begins .stands) in
+        let (alike, end, rs, ru) = left-same h k left e (st .begins .term) (su .term) (st .begins .stands) (su .stands) in
         stands-low rs (omega (arith, st .low, ap height (x .same)))
 
     pub right-begins : Begins u mid
     right-begins =
-        let (alike, end, rs, ru) = left-same h k left e (st .term) (su .term) (st .stands) (su .stands) in
+        let (alike, end, rs, ru) = left-same h k left e (st .begins .term) (su .term) (st .begins .stands) (su .stands) in
         term-begins ru
 
 -- THE ANSWER for two inputs
@@ -179,7 +179,7 @@ whole-low s bytes says e =
     stands-low (decoded-stands s bytes decoded) low
 
 pub low-begins : {s : List ℕ} {at room : ℕ} → Low s at room → Begins s at
-low-begins st = term-begins (st .stands)
+low-begins st = st .begins
 
 module _ (s u : List ℕ) {r : Checked} (says : told r ≡ check-of most-nodes s) where
   pub refuses-first : {why : Refusal} → r ≡ Refused why → refused (refusal-of why) ≡ equality-of s u

@@ -3,11 +3,10 @@ use Prim.Native.Nat.{ℕ, _+_, _≤_, _<_}
 use mathlib.Core.Path.{_≡_}
 use mathlib.Core.Bool.{Bool, true, false}
 use mathlib.Core.List.{List}
-use lib.ListN.{length}
 use Rattle.calculus.specs.Term.{Term, height}
 use Rattle.calculus.specs.Queries.{same}
 use Rattle.calculus.proofs.Sizes.{size}
-use Rattle.term.specs.Surveys.{Stands}
+use Rattle.term.specs.Surveys.{Stands, Begins}
 use Rattle.term.specs.declared.Head.{Head}
 use Rattle.term.specs.declared.Head.the-variants.{Variable, Abstraction, Application, Nothing}
 use Rattle.queries.specs.declared.Same.{Same}
@@ -30,12 +29,10 @@ pub data Decides (P : Type 0) : Bool → Type 0 where
   holds : P → Decides P true
   fails : (P → ⊥) → Decides P false
 
--- some term no higher than the room stands at an offset, which is then within s
+-- some term no higher than the room stands at an offset
 pub record Low (s : List ℕ) (at room : ℕ) : Type 0 where
-  pub term : Term
-  pub stands : Stands s at term
-  pub low : height term ≤ room
-  pub inside : at < length s
+  pub begins : Begins s at
+  pub low : height (begins .term) ≤ room
   pub some-room : 0 < room
 
 abbrev pub until-if : Bool → ℕ → Same

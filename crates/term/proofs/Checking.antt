@@ -14,7 +14,7 @@ use Rattle.calculus.specs.Judging.{within}
 use Rattle.calculus.specs.Outcomes.{checked}
 use Rattle.calculus.proofs.Coding.{AllBytes, encode-decode}
 use Rattle.term.specs.FactsOf.{facts-of}
-use Rattle.term.specs.Surveys.{Scans, is-whole, is-broken, Stands, Begins, Surveys}
+use Rattle.term.specs.Surveys.{Scans, is-whole, is-broken, Stands, Begins, Reaches, in-room, too-high, Surveys}
 use Rattle.term.specs.Answers.{refusal-of, told, judged, check-of}
 use Rattle.term.specs.declared.Facts.{Facts}
 use Rattle.term.specs.declared.Scan.{Scan}
@@ -25,7 +25,6 @@ use Rattle.term.specs.declared.Refusal.the-variants.{NotATerm}
 use Rattle.term.specs.declared.Checked.{Checked}
 use Rattle.term.specs.declared.Checked.the-variants.{Whole, Refused}
 use Rattle.term.proofs.Places.{term-begins}
-use Rattle.term.proofs.Surveying.{Reaches, in-room, too-high, says}
 
 -- whole bytes are those of their term
 pub decoded-stands : (s : List ℕ) {t : Term} → AllBytes s → decode s ≡ given t → Stands s 0 t
@@ -58,7 +57,7 @@ module _ (cap : ℕ) (s : List ℕ) {r : Scan} (scans : Scans (decode s) r) wher
     unfolding check-of checked within facts-of
     judged-whole found =
         let d = scanned-whole s bytes refl scans e in
-        by-reach d (says found (d .term) (d .stands))
+        by-reach d (found .surveyed (d .term) (d .stands))
       where
         by-reach : (d : Decoded s) {q : Survey} → Reaches 0 0 most-height (d .term) q → judged cap q ≡ check-of cap s
         by-reach d (in-room low) =

@@ -12,7 +12,7 @@ use Rattle.calculus.specs.Term.{var}
 use Rattle.calculus.specs.Numbers.{from-digits}
 use Rattle.calculus.specs.Bytes.{Found, found, missing, under, two-parts, of-kind, variable-if, term-in}
 use Rattle.calculus.proofs.Decoding.{first, first-of-kind}
-use Rattle.term.specs.Heads.{variable-head, head-of-kind, head-in}
+use Rattle.term.specs.Heads.{head-of-found, head-of-kind, head-in}
 use Rattle.term.specs.declared.Head.{Head}
 use Rattle.term.specs.declared.Head.the-variants.{Variable, Abstraction, Application, Nothing}
 
@@ -56,7 +56,7 @@ head-width [] = omega arith
 head-width (zero ∷ bs) = omega arith
 head-width (suc zero ∷ bs) = variable-width (leb 8 (length bs)) refl
   where
-    variable-width : (b : Bool) → leb 8 (length bs) ≡ b → width (variable-head b bs) ≤ suc (length bs)
+    variable-width : (b : Bool) → leb 8 (length bs) ≡ b → width (head-of-found (variable-if b bs)) ≤ suc (length bs)
     variable-width true e = omega (arith, leb-true 8 (length bs) e)
     variable-width false e = omega arith
 head-width (suc (suc zero) ∷ bs) = omega arith
@@ -79,7 +79,7 @@ unfolding head-in term-in of-kind head-of-kind
 first-by-head [] = refl
 first-by-head (k ∷ bs) = first-of-kind k bs ∙ by-kind k
   where
-    by-variable : (b : Bool) → variable-if b bs ≡ by-head (variable-head b bs) (1 ∷ bs)
+    by-variable : (b : Bool) → variable-if b bs ≡ by-head (head-of-found (variable-if b bs)) (1 ∷ bs)
     by-variable true = refl
     by-variable false = refl
 

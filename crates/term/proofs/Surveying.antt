@@ -1,19 +1,17 @@
 -- The walk that finds out the facts of a term, node by node, for all queries at once.
 use Prim.Native.Nat.{ℕ, _+_, _-_, _≤_, _<_}
-use mathlib.Core.Path.{_≡_, sym, ap₂}
+use mathlib.Core.Path.{_≡_}
 use mathlib.Core.List.{List}
 use native.Mathlib.Omega.{arith}
-use native.Mathlib.Decide.{decLe}
 use native.Mathlib.Numerals.{add-one}
 use lib.ListN.{length, drop}
-use borrow.Author.Tests.{le-leb, lt-leb}
 use Rattle.calculus.specs.Term.{Term, var, lam, app, nodes, height}
 use Rattle.calculus.specs.Queries.{max-depth}
 use Rattle.calculus.proofs.Measures.{height-positive}
 use Rattle.calculus.proofs.Sizes.{size}
 use Rattle.term.specs.Heads.{head-in}
 use Rattle.term.specs.FactsOf.{facts-of, facts-under, facts-beside}
-use Rattle.term.specs.Surveys.{Stands, Begins, survey-of, Surveys}
+use Rattle.term.specs.Surveys.{Stands, Begins, Reaches, in-room, too-high, Surveys}
 use Rattle.term.specs.declared.Facts.{Facts}
 use Rattle.term.specs.declared.Head.the-variants.{Variable, Abstraction, Application, Nothing}
 use Rattle.term.specs.declared.Survey.{Survey}
@@ -42,36 +40,15 @@ nodes-size (var i) = omega arith
 nodes-size (lam b) = omega (arith, nodes-size b)
 nodes-size (app l r) = omega (arith, nodes-size l, nodes-size r)
 
--- WITHIN THE ROOM OR OVER IT, exactly by the height
-pub data Reaches (at d room : ℕ) (t : Term) : Survey → Type 0 where
-  in-room : height t ≤ room → Reaches at d room t (Within (facts-of d t) (at + size t))
-  too-high : room < height t → Reaches at d room t Over
-
-reaches : (at d room : ℕ) (t : Term) → Reaches at d room t (survey-of at d room t)
-unfolding survey-of
-reaches at d room t =
-    elim (decLe (height t) room) [
-      | yes h ↦ rw (le-leb (height t) room h) (in-room h)
-      | no h ↦ rw (lt-leb (height t) room (omega arith)) (too-high (omega arith))
-    ]
-
-module _ (at d room : ℕ) (t : Term) where
-  survey-within : height t ≤ room → survey-of at d room t ≡ Within (facts-of d t) (at + size t)
-  unfolding survey-of
-  survey-within h = rw (le-leb (height t) room h)
-
-  survey-over : room < height t → survey-of at d room t ≡ Over
-  unfolding survey-of
-  survey-over h = rw (lt-leb (height t) room h)
+reached : {at d room : ℕ} {t : Term} {f : Facts} {next : ℕ} → height t ≤ room → f ≡ facts-of d t → next ≡ at + size t
+    → Reaches at d room t (Within f next)
+reached low same end = rw (same, end) (in-room low)
 
 -- what a right answer says of the term that stands there
 module _ {s : List ℕ} {at d room : ℕ} {r : Survey} (right : Surveys s at d room r) (t : Term) (st : Stands s at t) where
-  pub says : Reaches at d room t r
-  says = rw (right .surveyed t st) (reaches at d room t)
-
   says-within : {f : Facts} {next : ℕ} → r ≡ Within f next
       → (height t ≤ room) × (f ≡ facts-of d t) × (next ≡ at + size t)
-  says-within {f} {next} e = read says e
+  says-within {f} {next} e = read (right .surveyed t st) e
     where
       read : {q : Survey} → Reaches at d room t q → q ≡ Within f next
           → (height t ≤ room) × (f ≡ facts-of d t) × (next ≡ at + size t)
@@ -79,7 +56,7 @@ module _ {s : List ℕ} {at d room : ℕ} {r : Survey} (right : Surveys s at d r
       read (too-high h) e = let never : _≡_ {A = ℕ} 0 1 = cc in absurd (omega arith)
 
   says-over : r ≡ Over → room < height t
-  says-over e = read says e
+  says-over e = read (right .surveyed t st) e
     where
       read : {q : Survey} → Reaches at d room t q → q ≡ Over → room < height t
       read (in-room h) e = let never : _≡_ {A = ℕ} 0 1 = cc in absurd (omega arith)
@@ -99,7 +76,7 @@ left-known h left e t st =
 -- WHAT THE WALK ANSWERS at each head
 module _ {s : List ℕ} {at d room : ℕ} where
   pub no-room : room ≡ 0 → Surveys s at d room Over
-  no-room z = record { surveyed = λ t st. sym (survey-over at d room t (omega (arith, height-positive t))) }
+  no-room z = record { surveyed = λ t st. too-high (omega (arith, height-positive t)) }
 
   pub at-nothing : {r : Survey} → head-in (drop at s) ≡ Nothing → Surveys s at d room r
   at-nothing h = record { surveyed = λ t st. absurd (is-something t h st) }
@@ -108,7 +85,7 @@ module _ {s : List ℕ} {at d room : ℕ} where
       → Surveys s at d room (Within (facts-of d (var i)) (at + 9))
   unfolding height size
   at-variable {i} pos h =
-      record { surveyed = λ t st. rw (is-variable t h st) (sym (survey-within at d room (var i) pos)) }
+      record { surveyed = λ t st. rw (is-variable t h st) (in-room pos) }
 
   pub at-abstraction : {r : Survey} {f : Facts} {next : ℕ} → 0 < room → head-in (drop at s) ≡ Abstraction
       → Surveys s (at + 1) (d + 1) (room - 1) r → r ≡ Within f next
@@ -119,18 +96,17 @@ module _ {s : List ℕ} {at d room : ℕ} where
         let v = is-abstraction t h st in
         let b = v .body in
         let (low, same, end) = says-within body b (v .body-at) e in
-        rw (v .same, survey-within at d room (lam b) (omega arith))
-        (ap₂ Within (rw (same, facts-lam d b)) (omega arith));
+        rw (v .same) (reached (omega arith) (rw (same, facts-lam d b)) (omega arith));
   }
 
-  pub body-over : {r : Survey} → head-in (drop at s) ≡ Abstraction → Surveys s (at + 1) (d + 1) (room - 1) r → r ≡ Over
+  pub body-over : {e : ℕ} {r : Survey} → head-in (drop at s) ≡ Abstraction → Surveys s (at + 1) e (room - 1) r → r ≡ Over
       → Surveys s at d room Over
   unfolding height
-  body-over h body e = record {
+  body-over h body k = record {
     surveyed = λ t st.
         let v = is-abstraction t h st in
-        let high = says-over body (v .body) (v .body-at) e in
-        rw (v .same) (sym (survey-over at d room (lam (v .body)) (omega arith)));
+        let high = says-over body (v .body) (v .body-at) k in
+        rw (v .same) (too-high (omega arith));
   }
 
   pub at-application : {r q : Survey} {f g : Facts} {mid next : ℕ} → 0 < room → head-in (drop at s) ≡ Application
@@ -142,8 +118,7 @@ module _ {s : List ℕ} {at d room : ℕ} where
         let v = is-application t h st in
         let (low, same, end, stands) = left-known h left e t st in
         let (low′, same′, end′) = says-within right (v .right) stands k in
-        rw (v .same, survey-within at d room (app (v .left) (v .right)) (omega arith))
-        (ap₂ Within (rw (same, same′, facts-app d (v .left) (v .right))) (omega arith));
+        rw (v .same) (reached (omega arith) (rw (same, same′, facts-app d (v .left) (v .right))) (omega arith));
   }
 
   pub left-over : {r : Survey} → head-in (drop at s) ≡ Application → Surveys s (at + 1) d (room - 1) r → r ≡ Over
@@ -153,7 +128,7 @@ module _ {s : List ℕ} {at d room : ℕ} where
     surveyed = λ t st.
         let v = is-application t h st in
         let high = says-over left (v .left) (v .left-at) e in
-        rw (v .same) (sym (survey-over at d room (app (v .left) (v .right)) (omega arith)));
+        rw (v .same) (too-high (omega arith));
   }
 
   pub right-over : {r q : Survey} {f : Facts} {mid : ℕ} → head-in (drop at s) ≡ Application
@@ -165,7 +140,7 @@ module _ {s : List ℕ} {at d room : ℕ} where
         let v = is-application t h st in
         let (low, same, end, stands) = left-known h left e t st in
         let high = says-over right (v .right) stands k in
-        rw (v .same) (sym (survey-over at d room (app (v .left) (v .right)) (omega arith)));
+        rw (v .same) (too-high (omega arith));
   }
 
 -- WHAT A CALL ASKS

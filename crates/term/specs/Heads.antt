@@ -1,25 +1,21 @@
 -- What stands at the front of bytes, as the code's `Head` tells it.
-use Prim.Native.Nat.{ℕ, zero, suc}
-use mathlib.Core.Bool.{Bool, true, false}
+use Prim.Native.Nat.{ℕ}
 use mathlib.Core.List.{List, [], _∷_}
-use lib.Dec.{leb}
-use lib.ListN.{length, take}
-use Rattle.calculus.specs.Numbers.{from-digits}
+use Rattle.calculus.specs.Term.{var, lam, app}
+use Rattle.calculus.specs.Bytes.{Found, found, missing, of-kind}
 use Rattle.term.specs.declared.Head.{Head}
 use Rattle.term.specs.declared.Head.the-variants.{Variable, Abstraction, Application, Nothing}
 
--- a variable has all of its eight bytes
-abbrev pub variable-head : Bool → List ℕ → Head
-variable-head true bs = Variable (from-digits 256 (take 8 bs))
-variable-head false bs = Nothing
+abbrev pub head-of-found : Found → Head
+head-of-found (found (var i) rest) = Variable i
+head-of-found (found (lam b) rest) = Abstraction
+head-of-found (found (app l r) rest) = Application
+head-of-found (missing at) = Nothing
 
--- what a kind byte says, before the bytes after it
+-- what a kind byte says, whatever its parts are
 unfoldable pub head-of-kind : ℕ → List ℕ → Head
-head-of-kind zero bs = Nothing
-head-of-kind (suc zero) bs = variable-head (leb 8 (length bs)) bs
-head-of-kind (suc (suc zero)) bs = Abstraction
-head-of-kind (suc (suc (suc zero))) bs = Application
-head-of-kind (suc (suc (suc (suc k)))) bs = Nothing
+unfolding of-kind
+head-of-kind k bs = head-of-found (of-kind (found (var 0)) k bs)
 
 -- Nothing where the bytes end, where the first is no kind, and where a variable is cut short
 unfoldable pub head-in : List ℕ → Head

@@ -1,9 +1,7 @@
 -- What the walks over bytes find: whether they are one whole term, and the facts of the term at an offset.
-use Prim.Native.Nat.{ℕ, _+_, _<_}
+use Prim.Native.Nat.{ℕ, _+_, _≤_, _<_}
 use mathlib.Core.Path.{_≡_}
-use mathlib.Core.Bool.{Bool, true, false}
 use mathlib.Core.List.{List, _++_}
-use lib.Dec.{leb}
 use lib.ListN.{length, drop}
 use Rattle.calculus.specs.Term.{Term, height}
 use Rattle.calculus.specs.Refusal.{Answer, given, refused, not-a-term}
@@ -31,15 +29,11 @@ pub record Begins (s : List ℕ) (at : ℕ) : Type 0 where
   pub stands : Stands s at term
   pub inside : at < length s
 
-abbrev pub survey-if : Bool → (at depth : ℕ) → Term → Survey
-survey-if true at depth t = survey.Within (facts-of depth t) (at + size t)
-survey-if false at depth t = survey.Over
-
--- the facts of a term at an offset and the offset after it, where its height is within the room
-unfoldable pub survey-of : (at depth room : ℕ) → Term → Survey
-unfolding height facts-of size
-survey-of at depth room t = survey-if (leb (height t) room) at depth t
+-- the facts of a term at an offset and the offset after it, exactly if its height is within the room
+pub data Reaches (at depth room : ℕ) (t : Term) : Survey → Type 0 where
+  in-room : height t ≤ room → Reaches at depth room t (survey.Within (facts-of depth t) (at + size t))
+  too-high : room < height t → Reaches at depth room t survey.Over
 
 -- an answer is right for whatever term stands at the offset
 pub record Surveys (s : List ℕ) (at depth room : ℕ) (r : Survey) : Type 0 where
-  pub surveyed : (t : Term) → Stands s at t → r ≡ survey-of at depth room t
+  pub surveyed : (t : Term) → Stands s at t → Reaches at depth room t r

@@ -129,7 +129,7 @@ pub struct Facts {
 
 // The facts of a term and the offset after it, or that it is higher than the room.
 enum Survey {
-    Within { facts: Facts, next: usize },
+    Within(Facts, usize),
     Over,
 }
 
@@ -208,35 +208,21 @@ fn survey_at(s: &[u8], at: usize, depth: u64, room: u64) -> Survey
         return Survey::Over;
     }
     match head_at(s, at) {
-        Head::Variable(index) => Survey::Within {
-            facts: of_variable(index, depth),
-            next: at + 9,
-        },
+        Head::Variable(index) => Survey::Within(of_variable(index, depth), at + 9),
         Head::Abstraction => {
-            let Survey::Within { facts: body, next } = survey_at(s, at + 1, depth + 1, room - 1)
-            else {
+            let Survey::Within(body, next) = survey_at(s, at + 1, depth + 1, room - 1) else {
                 return Survey::Over;
             };
-            Survey::Within {
-                facts: of_abstraction(body),
-                next,
-            }
+            Survey::Within(of_abstraction(body), next)
         }
         Head::Application => {
-            let Survey::Within {
-                facts: left,
-                next: mid,
-            } = survey_at(s, at + 1, depth, room - 1)
-            else {
+            let Survey::Within(left, mid) = survey_at(s, at + 1, depth, room - 1) else {
                 return Survey::Over;
             };
-            let Survey::Within { facts: right, next } = survey_at(s, mid, depth, room - 1) else {
+            let Survey::Within(right, next) = survey_at(s, mid, depth, room - 1) else {
                 return Survey::Over;
             };
-            Survey::Within {
-                facts: of_application(left, right),
-                next,
-            }
+            Survey::Within(of_application(left, right), next)
         }
         Head::Nothing => Survey::Over,
     }
@@ -254,7 +240,7 @@ fn judge(cap: u64, found: Survey) -> Checked
 {
     match found {
         Survey::Over => Checked::Refused(Refusal::TooHigh),
-        Survey::Within { facts, next: _ } => {
+        Survey::Within(facts, _) => {
             if facts.nodes <= cap {
                 Checked::Whole(facts)
             } else {

@@ -1,5 +1,6 @@
 -- `term::judge` meets its contract.
 use mathlib.Core.Path.{sym, ap}
+use native.Mathlib.Omega.{arith}
 use borrow.Author.Needs.{needs}
 use borrow.Author.Tests.{le-leb, lt-leb}
 use Rattle.term.specs.Answers.{refusal-of, told, judged}
@@ -16,7 +17,8 @@ returns-2 : tie.Need-returns-2
 unfolding told
 returns-2 c =
     let at-found = c .before .before .before in
-    rw (at-found .found .given .1, le-leb _ _ (c .if1 .taken))
+    let few = le-leb (at-found .found .given .0 .0 .nodes) (at-found .before .before .args .cap) (omega arith) in
+    rw (at-found .found .given .1, few)
 
 returns-3 : tie.Need-returns-3
 unfolding told refusal-of
