@@ -1,5 +1,5 @@
 -- How many bytes a term takes: nine for a variable and one for any other node, so that what a cap asks for holds it.
-use Prim.Native.Nat.{ℕ, suc, _+_, _*_, _≤_}
+use Prim.Native.Nat.{ℕ, suc, _+_, _*_, _≤_, _<_}
 use mathlib.Core.Path.{_≡_, refl, ap, _∙_}
 use mathlib.Core.List.{List}
 use native.Mathlib.Omega.{arith}
@@ -18,6 +18,18 @@ unfolding encode size digits
 length-encode (var i) = refl
 length-encode (lam b) = ap suc (length-encode b)
 length-encode (app l r) = ap suc (length-append (encode l) (encode r) ∙ rw (length-encode l, length-encode r))
+
+pub size-positive : (t : Term) → 0 < size t
+unfolding size
+size-positive (var i) = omega arith
+size-positive (lam b) = omega arith
+size-positive (app l r) = omega arith
+
+pub nodes-size : (t : Term) → nodes t ≤ size t
+unfolding nodes size
+nodes-size (var i) = omega arith
+nodes-size (lam b) = omega (arith, nodes-size b)
+nodes-size (app l r) = omega (arith, nodes-size l, nodes-size r)
 
 pub nine-per-node : (t : Term) → size t ≤ 9 * nodes t
 unfolding size nodes

@@ -19,7 +19,7 @@ pub data Refusal : Type 0 where
   output-too-short : (needed : ℕ) → Refusal
 
 -- a refusal's number
-unfoldable pub refusal-number : Refusal → ℕ
+abbrev pub refusal-number : Refusal → ℕ
 refusal-number outside-bounds = 1
 refusal-number too-little-room = 2
 refusal-number text-too-long = 3
@@ -35,7 +35,7 @@ refusal-number index-too-great = 12
 refusal-number (output-too-short needed) = 13
 
 -- what it returns besides its number
-unfoldable pub refusal-values : Refusal → List ℕ
+abbrev pub refusal-values : Refusal → List ℕ
 refusal-values outside-bounds = []
 refusal-values too-little-room = []
 refusal-values text-too-long = []

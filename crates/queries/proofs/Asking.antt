@@ -7,14 +7,14 @@ use Rattle.calculus.specs.Bounds.{most-nodes}
 use Rattle.calculus.specs.Refusal.{Answer, given, refused, _then_}
 use Rattle.calculus.specs.Outcomes.{checked, query-of}
 use Rattle.term.specs.FactsOf.{facts-of}
-use Rattle.term.specs.Answers.{refusal-of, told, check-of}
+use Rattle.term.specs.Answers.{refusal-of, check-told, check-of}
 use Rattle.term.specs.declared.Facts.{Facts}
 use Rattle.term.specs.declared.Refusal.{Refusal}
 use Rattle.term.specs.declared.Checked.{Checked}
 use Rattle.term.specs.declared.Checked.the-variants.{Whole, Refused}
 use Rattle.term.proofs.Checking.{check-whole, check-refused}
 
-module _ (s : List ℕ) {r : Checked} (says : told r ≡ check-of most-nodes s) {A : Type 0} where
+module _ (s : List ℕ) {r : Checked} (says : check-told r ≡ check-of most-nodes s) {A : Type 0} where
   pub asked : (pick : Facts → A) {f : Facts} → r ≡ Whole f → given (pick f) ≡ query-of (λ t. pick (facts-of 0 t)) s
   unfolding query-of
   asked pick e =

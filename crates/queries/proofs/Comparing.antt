@@ -22,7 +22,7 @@ use Rattle.term.specs.Heads.{head-in}
 use Rattle.term.specs.Surveys.{Stands, Begins}
 use Rattle.term.specs.declared.Head.{Head}
 use Rattle.term.specs.declared.Head.the-variants.{Variable, Abstraction, Application, Nothing}
-use Rattle.term.specs.Answers.{refusal-of, told, check-of}
+use Rattle.term.specs.Answers.{refusal-of, check-told, check-of}
 use Rattle.term.specs.declared.Facts.{Facts}
 use Rattle.term.specs.declared.Refusal.{Refusal}
 use Rattle.term.specs.declared.Checked.{Checked}
@@ -34,7 +34,7 @@ use Rattle.queries.specs.Comparing.{kind-of, index-of, Decides, holds, f
 use Rattle.queries.specs.declared.Same.{Same}
 use Rattle.queries.specs.declared.Same.the-variants.{Until, Differs}
 
--- HEADS are told apart by kind and index
+-- HEADS are check-told apart by kind and index
 head-from : (kind index : ℕ) → Head
 head-from zero i = Nothing
 head-from (suc zero) i = Variable i
@@ -138,10 +138,14 @@ module _ {s u : List ℕ} {at : ℕ} where
   at-nothing h = record { compared = λ t v st su. absurd (is-something t h st) }
 
 -- WHAT A CALL ASKS
-pub stands-low : {s : List ℕ} {at room : ℕ} {t : Term} → Stands s at t → height t ≤ room → Low s at room
+stands-low : {s : List ℕ} {at room : ℕ} {t : Term} → Stands s at t → height t ≤ room → Low s at room
 stands-low {t = t} st low =
     let positive = height-positive t in
-    record { begins = record { term = t; stands = st; inside = term-begins st .inside }; low = low; some-room = omega arith }
+    record {
+      begins = record { term = t; stands = st; inside = term-begins st .inside };
+      low = low;
+      some-room = omega arith;
+    }
 
 module _ {s : List ℕ} {at room : ℕ} (st : Low s at room) where
   pub body-low : head-in (drop at s) ≡ Abstraction → Low s (at + 1) (room - 1)
@@ -171,22 +175,19 @@ module _ {s : List ℕ} {at room : ℕ} (st : Low s at room) where
         term-begins ru
 
 -- THE ANSWER for two inputs
-pub whole-low : (s : List ℕ) {r : Checked} {f : Facts} → AllBytes s → told r ≡ check-of most-nodes s → r ≡ Whole f
+pub whole-low : (s : List ℕ) {r : Checked} {f : Facts} → AllBytes s → check-told r ≡ check-of most-nodes s → r ≡ Whole f
     → Low s 0 most-height
 whole-low s bytes says e =
     let w = check-whole most-nodes s says e in
     let (decoded, low, few) = checked-given s (w .let-through) in
     stands-low (decoded-stands s bytes decoded) low
 
-pub low-begins : {s : List ℕ} {at room : ℕ} → Low s at room → Begins s at
-low-begins st = st .begins
-
-module _ (s u : List ℕ) {r : Checked} (says : told r ≡ check-of most-nodes s) where
+module _ (s u : List ℕ) {r : Checked} (says : check-told r ≡ check-of most-nodes s) where
   pub refuses-first : {why : Refusal} → r ≡ Refused why → refused (refusal-of why) ≡ equality-of s u
   unfolding equality-of
   refuses-first e = rw (check-refused most-nodes s says e)
 
-  module _ {f : Facts} (e : r ≡ Whole f) {q : Checked} (says′ : told q ≡ check-of most-nodes u) where
+  module _ {f : Facts} (e : r ≡ Whole f) {q : Checked} (says′ : check-told q ≡ check-of most-nodes u) where
     pub refuses-second : {why : Refusal} → q ≡ Refused why → refused (refusal-of why) ≡ equality-of s u
     unfolding equality-of
     refuses-second k =

@@ -9,7 +9,8 @@ ghost use mathlib.Core.Path.{_≡_};
 ghost use Rattle.calculus.specs.Outcomes.{nodes-of, height-of, max-depth-of, max-free-index-of};
 ghost use Rattle.calculus.specs.Outcomes.{has-free-variables-of, is-supercombinator-of, equality-of};
 ghost use Rattle.term.specs.Surveys.{Begins};
-ghost use Rattle.queries.specs.Answers.{number-told, truth-told, picked, number-of};
+ghost use Rattle.queries.specs.Answers.{number-told, truth-told};
+ghost use Rattle.queries.specs.Asking.{picked, number-of};
 ghost use Rattle.queries.specs.Comparing.{kind-of, index-of, Decides, Low, Compares, agrees};
 
 // The answer of a query: a number or a refusal, a truth or a refusal.
@@ -38,7 +39,7 @@ fn pick(query: Query, facts: Facts) -> u64
         Query::Nodes => facts.nodes,
         Query::Height => facts.height,
         Query::MaxDepth => facts.depth,
-        Query::MaxFreeIndex => facts.greatest,
+        Query::MaxFreeIndex => facts.reach,
     }
 }
 
@@ -158,6 +159,7 @@ fn same_at(s: &[u8], u: &[u8], at: usize, room: u64) -> Same
             };
             same_at(s, u, mid, room - 1)
         }
+        // not met: a term begins here
         Head::Nothing => Same::Differs,
     }
 }

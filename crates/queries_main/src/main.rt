@@ -2,6 +2,8 @@
 use libc::STDOUT_FILENO;
 use queries::Number;
 use queries::Truth;
+use term::Checked;
+use term::Head;
 use term::Refusal;
 ghost use mathlib.Core.Path.{_≡_};
 ghost use lib.ListN.{length};
@@ -14,23 +16,13 @@ fn number(n: u64) {
     io::print_decimal(STDOUT_FILENO, n);
 }
 
-// Of the refusals only 10 has a value here: its offset.
+// Of the refusals that are met here only 10 has a value: its offset.
 fn refused(why: Refusal) {
     say(b"refused ");
-    match why {
-        Refusal::NotATerm(at) => {
-            say(b"10 at ");
-            number(at as u64);
-        }
-        Refusal::TooHigh => {
-            say(b"7");
-        }
-        Refusal::TooManyNodes => {
-            say(b"9");
-        }
-        _ => {
-            say(b"by what no query gives");
-        }
+    number(term::refusal_number(why));
+    if let Refusal::NotATerm(at) = why {
+        say(b" at ");
+        number(at as u64);
     }
 }
 
@@ -74,6 +66,68 @@ fn ask_all(what: &[u8], s: &[u8]) {
     tell_number(b"  max_free_index ", queries::max_free_index(s));
     tell_truth(b"  has_free_variables ", queries::has_free_variables(s));
     tell_truth(b"  is_supercombinator ", queries::is_supercombinator(s));
+}
+
+fn tell_head(what: &[u8], s: &[u8], at: usize) {
+    say(what);
+    match term::head_at(s, at) {
+        Head::Variable(index) => {
+            say(b"variable ");
+            number(index);
+        }
+        Head::Abstraction => {
+            say(b"abstraction");
+        }
+        Head::Application => {
+            say(b"application");
+        }
+        Head::Nothing => {
+            say(b"nothing");
+        }
+    }
+    say(b"\n");
+}
+
+fn heads() {
+    say(b"-- heads\n");
+    let s = b"\x03\x02\x01\x05\x01\0\0\0\0\0\0\x01\x03\0\0\0\0\0\0";
+    tell_head(b"offset 0: ", s, 0);
+    tell_head(b"offset 1: ", s, 1);
+    tell_head(b"offset 2: ", s, 2);
+    tell_head(b"offset 3, no kind: ", s, 3);
+    tell_head(b"offset 11, a variable cut short: ", s, 11);
+    tell_head(b"offset 19, the end: ", s, 19);
+    tell_head(b"offset 18446744073709551615: ", s, 18446744073709551615);
+}
+
+// The nodes and the height that a check against a cap finds.
+fn tell_check(what: &[u8], cap: u64, s: &[u8]) {
+    say(what);
+    match term::check(cap, s) {
+        Checked::Whole(facts) => {
+            number(facts.nodes);
+            say(b" nodes, height ");
+            number(facts.height);
+        }
+        Checked::Refused(why) => {
+            refused(why);
+        }
+    }
+    say(b"\n");
+}
+
+fn caps() {
+    say(b"-- caps\n");
+    let s = b"\x02\x03\x01\x01\0\0\0\0\0\0\0\x02\x01\x01\0\0\0\0\0\0\0";
+    tell_check(b"5 nodes, cap 5: ", 5, s);
+    tell_check(b"5 nodes, cap 4: ", 4, s);
+    tell_check(b"5 nodes, cap 0: ", 0, s);
+    tell_check(
+        b"5 nodes, cap 18446744073709551615: ",
+        18446744073709551615,
+        s,
+    );
+    tell_check(b"no bytes, cap 0: ", 0, b"");
 }
 
 // The doc examples of lambda_calculus for these queries; `is_isomorphic_to` is equality.
@@ -145,12 +199,20 @@ fn broken() {
     );
 }
 
-// Bytes that nest a million deep take no stack: a term that never ends, and one that does.
+// Bytes that nest a million deep: a term that never ends, and one that does.
 fn deep() {
     let mut bytes = megabyte();
     ask_all(b"a megabyte of byte 2", &bytes);
     samples::variable(&mut bytes, 1048567, 1);
     ask_all(b"a megabyte of byte 2 that ends in a variable", &bytes);
+    tell_truth(
+        b"equality of it and nothing: ",
+        queries::equality(&bytes, b""),
+    );
+    tell_truth(
+        b"equality of nothing and it: ",
+        queries::equality(b"", &bytes),
+    );
 }
 
 fn buffer() -> [u8; 68000]
@@ -160,12 +222,21 @@ fn buffer() -> [u8; 68000]
 }
 
 // 256 rows of 255 nodes, of which the first may differ, and a last twig.
+fn put_rows(buf: &mut [u8], first_lams: usize, last_lams: usize, last: u8) -> usize {
+    let second = samples::rows(buf, 0, 1, first_lams, 0);
+    let twig = samples::rows(buf, second, 255, 253, 0);
+    samples::twig(buf, twig, last_lams, 0, last)
+}
+
 fn ask_rows(what: &[u8], first_lams: usize, last_lams: usize) {
     let mut buf = buffer();
-    let second = samples::rows(&mut buf, 0, 1, first_lams, 0);
-    let last = samples::rows(&mut buf, second, 255, 253, 0);
-    let end = samples::twig(&mut buf, last, last_lams, 0, 1);
+    let end = put_rows(&mut buf, first_lams, last_lams, 1);
     ask_all(what, samples::first(&buf, end));
+    tell_check(
+        b"  under a cap of 65,537: ",
+        65537,
+        samples::first(&buf, end),
+    );
 }
 
 fn ask_twig(what: &[u8], lams: usize, apps: usize) {
@@ -187,24 +258,42 @@ fn bounds() {
     ask_twig(b"512 applications, one in another", 0, 512);
 }
 
-// The largest term, and the same with another last variable.
-fn compare_rows(what: &[u8], index: u8) {
+fn compare_rows(what: &[u8], first_lams: usize, other_first: usize, other_last: usize, index: u8) {
     let mut buf = buffer();
-    let last = samples::rows(&mut buf, 0, 256, 253, 0);
-    let end = samples::twig(&mut buf, last, 255, 0, 1);
+    let end = put_rows(&mut buf, first_lams, 255, 1);
     let mut other = buffer();
-    samples::rows(&mut other, 0, 256, 253, 0);
-    samples::twig(&mut other, last, 255, 0, index);
-    let same = queries::equality(samples::first(&buf, end), samples::first(&other, end));
+    let other_end = put_rows(&mut other, other_first, other_last, index);
+    let same = queries::equality(samples::first(&buf, end), samples::first(&other, other_end));
     tell_truth(what, same);
+}
+
+fn large_equality() {
+    say(b"-- equality of large terms\n");
+    compare_rows(b"the largest term and itself: ", 253, 253, 255, 1);
+    compare_rows(
+        b"the largest term and one other last index: ",
+        253,
+        253,
+        255,
+        2,
+    );
+    compare_rows(b"the largest term and one too high: ", 253, 252, 256, 1);
+    compare_rows(
+        b"one with too many nodes and one too high: ",
+        254,
+        252,
+        256,
+        1,
+    );
 }
 
 fn main() {
     doc_examples();
     indices();
+    heads();
+    caps();
     broken();
     deep();
     bounds();
-    compare_rows(b"equality of the largest term and itself: ", 1);
-    compare_rows(b"equality of it and one other last index: ", 2);
+    large_equality();
 }

@@ -1,17 +1,18 @@
-// Times the queries at 1,000, 10,000 and 65,536 nodes and writes the times to standard error; standard output is empty.
+// Times the queries at 1,000, 10,000 and 65,536 nodes: the times go to standard error, the right answers to standard output.
 use libc::STDERR_FILENO;
+use libc::STDOUT_FILENO;
 use queries::Number;
 use queries::Truth;
 ghost use mathlib.Core.Path.{_≡_};
 ghost use Prim.Native.Nat.{_≤_};
 ghost use lib.ListN.{length};
 
-fn say(words: &[u8]) {
-    io::write_all(STDERR_FILENO, words);
+fn say(to: i32, words: &[u8]) {
+    io::write_all(to, words);
 }
 
-fn number(n: u64) {
-    io::print_decimal(STDERR_FILENO, n);
+fn number(to: i32, n: u64) {
+    io::print_decimal(to, n);
 }
 
 fn buffer() -> [u8; 330000]
@@ -80,15 +81,26 @@ fn right_answers(asked: Asked, buf: &mut [u8], end: usize, nodes: u64, calls: u6
     right
 }
 
+// How many calls answered right goes to standard output, and the time to standard error.
 fn time(asked: Asked, what: &[u8], buf: &mut [u8], end: usize, nodes: u64, calls: u64) {
     let from = positive(libc::clock());
     let right = right_answers(asked, buf, end, nodes, calls);
     let to = positive(libc::clock());
-    say(what);
-    number(right);
-    say(b" right answers in ");
-    number(microseconds(from, to));
-    say(b" microseconds\n");
+    say(STDOUT_FILENO, what);
+    number(STDOUT_FILENO, right);
+    say(STDOUT_FILENO, b" of ");
+    number(STDOUT_FILENO, calls);
+    say(STDOUT_FILENO, b" answers right\n");
+    say(STDERR_FILENO, what);
+    number(STDERR_FILENO, calls);
+    say(STDERR_FILENO, b" calls in ");
+    number(STDERR_FILENO, microseconds(from, to));
+    say(STDERR_FILENO, b" microseconds\n");
+}
+
+fn title(words: &[u8]) {
+    say(STDOUT_FILENO, words);
+    say(STDERR_FILENO, words);
 }
 
 // A term of rows of 255 nodes and a last twig with so many abstractions, asked so often.
@@ -96,8 +108,9 @@ fn time_rows(nodes: u64, count: usize, lams: usize, apps: usize, last_lams: usiz
     let mut buf = buffer();
     let last = samples::rows(&mut buf, 0, count, lams, apps);
     let end = samples::twig(&mut buf, last, last_lams, apps, 1);
-    number(nodes);
-    say(b" nodes\n");
+    number(STDOUT_FILENO, nodes);
+    number(STDERR_FILENO, nodes);
+    title(b" nodes\n");
     time(Asked::Nodes, b"  nodes: ", &mut buf, end, nodes, calls);
     time(
         Asked::Equality,
@@ -110,11 +123,11 @@ fn time_rows(nodes: u64, count: usize, lams: usize, apps: usize, last_lams: usiz
 }
 
 fn main() {
-    say(b"abstractions under applications\n");
+    title(b"abstractions under applications\n");
     time_rows(1000, 3, 253, 0, 234, 1639);
     time_rows(10000, 39, 253, 0, 54, 164);
     time_rows(65536, 256, 253, 0, 255, 25);
-    say(b"applications of variables\n");
+    title(b"applications of variables\n");
     time_rows(1000, 2, 1, 126, 237, 1639);
     time_rows(10000, 38, 1, 126, 57, 164);
     time_rows(65536, 256, 1, 126, 3, 25);

@@ -14,8 +14,9 @@ use Rattle.calculus.specs.Judging.{within}
 use Rattle.calculus.specs.Outcomes.{checked}
 use Rattle.calculus.proofs.Coding.{AllBytes, encode-decode}
 use Rattle.term.specs.FactsOf.{facts-of}
-use Rattle.term.specs.Surveys.{Scans, is-whole, is-broken, Stands, Begins, Reaches, in-room, too-high, Surveys}
-use Rattle.term.specs.Answers.{refusal-of, told, judged, check-of}
+use Rattle.term.specs.Surveys.{Scans, is-whole, is-broken, Stands, Begins}
+use Rattle.term.specs.Surveys.{Reaches, in-room, above-room, Surveys, judged}
+use Rattle.term.specs.Answers.{refusal-of, check-told, check-of}
 use Rattle.term.specs.declared.Facts.{Facts}
 use Rattle.term.specs.declared.Scan.{Scan}
 use Rattle.term.specs.declared.Scan.the-variants as scan
@@ -45,8 +46,8 @@ scanned-broken is-whole e = let never : _≡_ {A = ℕ} 0 1 = cc in absurd (omeg
 scanned-broken (is-broken {offset = k}) e = cc
 
 module _ (cap : ℕ) (s : List ℕ) {r : Scan} (scans : Scans (decode s) r) where
-  pub refuses-broken : {at : ℕ} → r ≡ scan.Broken at → told (Refused (NotATerm at)) ≡ check-of cap s
-  unfolding told refusal-of check-of checked
+  pub refuses-broken : {at : ℕ} → r ≡ scan.Broken at → check-told (Refused (NotATerm at)) ≡ check-of cap s
+  unfolding check-told check-of checked
   refuses-broken e = rw (scanned-broken scans e)
 
   module _ (bytes : AllBytes s) (e : r ≡ scan.Whole) where
@@ -67,7 +68,7 @@ module _ (cap : ℕ) (s : List ℕ) {r : Scan} (scans : Scans (decode s) r) wher
                 ≡ (kept-if b too-many-nodes (d .term) then (λ t. given (facts-of 0 t)))
             kept true = refl
             kept false = refl
-        by-reach d (too-high high) = rw (d .same, lt-leb (height (d .term)) most-height high)
+        by-reach d (above-room high) = rw (d .same, lt-leb (height (d .term)) most-height high)
 
 -- WHAT A CALLER LEARNS from the check's answer
 pub record IsWhole (cap : ℕ) (s : List ℕ) (f : Facts) : Type 0 where
@@ -75,9 +76,9 @@ pub record IsWhole (cap : ℕ) (s : List ℕ) (f : Facts) : Type 0 where
   pub let-through : checked cap s ≡ given term
   pub same : f ≡ facts-of 0 term
 
-module _ (cap : ℕ) (s : List ℕ) {r : Checked} (says : told r ≡ check-of cap s) where
+module _ (cap : ℕ) (s : List ℕ) {r : Checked} (says : check-told r ≡ check-of cap s) where
   pub check-whole : {f : Facts} → r ≡ Whole f → IsWhole cap s f
-  unfolding told check-of
+  unfolding check-told check-of
   check-whole {f} e = read (checked cap s) refl (rw e at says)
     where
       read : (a : Answer Term) → checked cap s ≡ a → given f ≡ (a then (λ t. given (facts-of 0 t))) → IsWhole cap s f
@@ -85,7 +86,7 @@ module _ (cap : ℕ) (s : List ℕ) {r : Checked} (says : told r ≡ check-of ca
       read (refused why) d k = let never : _≡_ {A = ℕ} 0 1 = cc in absurd (omega arith)
 
   pub check-refused : {why : Refusal} → r ≡ Refused why → checked cap s ≡ refused (refusal-of why)
-  unfolding told check-of
+  unfolding check-told check-of
   check-refused {why} e = read (checked cap s) refl (rw e at says)
     where
       read : (a : Answer Term) → checked cap s ≡ a

@@ -1,5 +1,5 @@
 -- Where a term's bytes stand: the head that is read there, where the parts stand, and how far the bytes reach.
-use Prim.Native.Nat.{ℕ, _+_, _≤_, _<_}
+use Prim.Native.Nat.{ℕ, _+_, _≤_}
 use mathlib.Core.Path.{_≡_, refl, sym, ap, _∙_}
 use mathlib.Core.List.{List, _++_, append-assoc}
 use native.Mathlib.Omega.{arith}
@@ -10,7 +10,7 @@ use Rattle.calculus.specs.Term.{Term, var, lam, app}
 use Rattle.calculus.specs.Numbers.{from-digits}
 use Rattle.calculus.specs.Bytes.{digits, encode}
 use Rattle.calculus.proofs.Coding.{number-digits}
-use Rattle.calculus.proofs.Sizes.{size, length-encode}
+use Rattle.calculus.proofs.Sizes.{size, size-positive, length-encode}
 use Rattle.term.specs.Heads.{head-of-kind, head-in}
 use Rattle.term.specs.Surveys.{Stands, Begins}
 use Rattle.term.specs.declared.Head.{Head}
@@ -56,12 +56,6 @@ right-stands {s} {at} {l} {r} st = record {
 }
 
 -- HOW FAR the bytes reach
-size-positive : (t : Term) → 0 < size t
-unfolding size
-size-positive (var i) = omega arith
-size-positive (lam b) = omega arith
-size-positive (app l r) = omega arith
-
 pub size-within : {s : List ℕ} {at : ℕ} {t : Term} → Stands s at t → at + size t ≤ length s
 size-within {s} {at} {t} st =
     omega (arith, length-drop at s, simp length-append at (ap length (st .bytes)), length-encode t, size-positive t)

@@ -6,12 +6,11 @@ use native.Mathlib.Omega.{arith}
 use native.Mathlib.Numerals.{add-one}
 use lib.ListN.{length, drop}
 use Rattle.calculus.specs.Term.{Term, var, lam, app, nodes, height}
-use Rattle.calculus.specs.Queries.{max-depth}
-use Rattle.calculus.proofs.Measures.{height-positive}
-use Rattle.calculus.proofs.Sizes.{size}
+use Rattle.calculus.proofs.Measures.{height-positive, depth-low}
+use Rattle.calculus.proofs.Sizes.{size, nodes-size}
 use Rattle.term.specs.Heads.{head-in}
-use Rattle.term.specs.FactsOf.{facts-of, facts-under, facts-beside}
-use Rattle.term.specs.Surveys.{Stands, Begins, Reaches, in-room, too-high, Surveys}
+use Rattle.term.specs.FactsOf.{facts-of}
+use Rattle.term.specs.Surveys.{Stands, Begins, Reaches, in-room, above-room, Surveys, facts-under, facts-beside}
 use Rattle.term.specs.declared.Facts.{Facts}
 use Rattle.term.specs.declared.Head.the-variants.{Variable, Abstraction, Application, Nothing}
 use Rattle.term.specs.declared.Survey.{Survey}
@@ -28,18 +27,6 @@ facts-app : (d : ℕ) (l r : Term) → facts-of d (app l r) ≡ facts-beside (fa
 unfolding facts-of
 facts-app d l r = simp add-one
 
-depth-low : (t : Term) → max-depth t ≤ height t
-unfolding max-depth height
-depth-low (var i) = omega arith
-depth-low (lam b) = omega (arith, depth-low b)
-depth-low (app l r) = omega (arith, depth-low l, depth-low r)
-
-nodes-size : (t : Term) → nodes t ≤ size t
-unfolding nodes size
-nodes-size (var i) = omega arith
-nodes-size (lam b) = omega (arith, nodes-size b)
-nodes-size (app l r) = omega (arith, nodes-size l, nodes-size r)
-
 reached : {at d room : ℕ} {t : Term} {f : Facts} {next : ℕ} → height t ≤ room → f ≡ facts-of d t → next ≡ at + size t
     → Reaches at d room t (Within f next)
 reached low same end = rw (same, end) (in-room low)
@@ -53,14 +40,14 @@ module _ {s : List ℕ} {at d room : ℕ} {r : Survey} (right : Surveys s at d r
       read : {q : Survey} → Reaches at d room t q → q ≡ Within f next
           → (height t ≤ room) × (f ≡ facts-of d t) × (next ≡ at + size t)
       read (in-room h) e = (h, cc, cc)
-      read (too-high h) e = let never : _≡_ {A = ℕ} 0 1 = cc in absurd (omega arith)
+      read (above-room h) e = let never : _≡_ {A = ℕ} 0 1 = cc in absurd (omega arith)
 
   says-over : r ≡ Over → room < height t
   says-over e = read (right .surveyed t st) e
     where
       read : {q : Survey} → Reaches at d room t q → q ≡ Over → room < height t
       read (in-room h) e = let never : _≡_ {A = ℕ} 0 1 = cc in absurd (omega arith)
-      read (too-high h) e = h
+      read (above-room h) e = h
 
 -- the left part is within its room: what is known of it, and that the right one stands after it
 left-known : {s : List ℕ} {at d room : ℕ} {r : Survey} {f : Facts} {mid : ℕ}
@@ -76,7 +63,7 @@ left-known h left e t st =
 -- WHAT THE WALK ANSWERS at each head
 module _ {s : List ℕ} {at d room : ℕ} where
   pub no-room : room ≡ 0 → Surveys s at d room Over
-  no-room z = record { surveyed = λ t st. too-high (omega (arith, height-positive t)) }
+  no-room z = record { surveyed = λ t st. above-room (omega (arith, height-positive t)) }
 
   pub at-nothing : {r : Survey} → head-in (drop at s) ≡ Nothing → Surveys s at d room r
   at-nothing h = record { surveyed = λ t st. absurd (is-something t h st) }
@@ -106,7 +93,7 @@ module _ {s : List ℕ} {at d room : ℕ} where
     surveyed = λ t st.
         let v = is-abstraction t h st in
         let high = says-over body (v .body) (v .body-at) k in
-        rw (v .same) (too-high (omega arith));
+        rw (v .same) (above-room (omega arith));
   }
 
   pub at-application : {r q : Survey} {f g : Facts} {mid next : ℕ} → 0 < room → head-in (drop at s) ≡ Application
@@ -128,7 +115,7 @@ module _ {s : List ℕ} {at d room : ℕ} where
     surveyed = λ t st.
         let v = is-application t h st in
         let high = says-over left (v .left) (v .left-at) e in
-        rw (v .same) (too-high (omega arith));
+        rw (v .same) (above-room (omega arith));
   }
 
   pub right-over : {r q : Survey} {f : Facts} {mid : ℕ} → head-in (drop at s) ≡ Application
@@ -140,7 +127,7 @@ module _ {s : List ℕ} {at d room : ℕ} where
         let v = is-application t h st in
         let (low, same, end, stands) = left-known h left e t st in
         let high = says-over right (v .right) stands k in
-        rw (v .same) (too-high (omega arith));
+        rw (v .same) (above-room (omega arith));
   }
 
 -- WHAT A CALL ASKS

@@ -6,7 +6,7 @@ use lib.ListN.{drop}
 use Rattle.calculus.specs.Refusal as calculus
 use Rattle.calculus.specs.Refusal.{Answer, given, refused}
 use Rattle.term.specs.Heads.{head-in}
-use Rattle.term.specs.Answers.{refusal-of, told, check-of}
+use Rattle.term.specs.Answers.{refusal-of, check-told, check-of}
 use Rattle.term.specs.declared.Facts.{Facts}
 use Rattle.term.specs.declared.Head.{Head}
 use Rattle.term.specs.declared.Refusal.{Refusal}
@@ -17,7 +17,7 @@ use Rattle.term.specs.declared.Refusal.the-variants.{IndexTooGreat, Outp
 use Rattle.term.specs.declared.Checked.{Checked}
 use Rattle.term.specs.declared.Checked.the-variants.{Whole, Refused}
 
--- what can be told back tells which it is
+-- what can be check-told back tells which it is
 pub one-by : {A B : Type 0} (to : A → B) (from : B → A) → ((x : A) → from (to x) ≡ x) → {x y : A} {b : B}
     → to x ≡ b → to y ≡ b
     → x ≡ y
@@ -39,7 +39,6 @@ refusal-from calculus.index-too-great = IndexTooGreat
 refusal-from (calculus.output-too-short needed) = OutputTooShort needed
 
 pub refusal-back : (why : Refusal) → refusal-from (refusal-of why) ≡ why
-unfolding refusal-of
 refusal-back OutsideBounds = refl
 refusal-back TooLittleRoom = refl
 refusal-back TextTooLong = refl
@@ -58,13 +57,13 @@ abbrev checked-from : Answer Facts → Checked
 checked-from (given facts) = Whole facts
 checked-from (refused why) = Refused (refusal-from why)
 
-checked-back : (r : Checked) → checked-from (told r) ≡ r
-unfolding told
+checked-back : (r : Checked) → checked-from (check-told r) ≡ r
+unfolding check-told
 checked-back (Whole facts) = refl
 checked-back (Refused why) = ap Refused (refusal-back why)
 
-pub one-check : (cap : ℕ) (s : List ℕ) {r q : Checked} → told r ≡ check-of cap s → told q ≡ check-of cap s → r ≡ q
-one-check cap s e k = one-by told checked-from checked-back e k
+pub one-check : (cap : ℕ) (s : List ℕ) {r q : Checked} → check-told r ≡ check-of cap s → check-told q ≡ check-of cap s → r ≡ q
+one-check cap s e k = one-by check-told checked-from checked-back e k
 
 pub one-head : (s : List ℕ) (at : ℕ) {r q : Head} → r ≡ head-in (drop at s) → q ≡ head-in (drop at s) → r ≡ q
 one-head s at e k = e ∙ sym k

@@ -1,9 +1,8 @@
 -- What the code's enums mean: each case's refusal or value by document 01.
 use Prim.Native.Nat.{ℕ}
 use mathlib.Core.List.{List}
-use lib.Dec.{leb}
 use Rattle.calculus.specs.Refusal as calculus
-use Rattle.calculus.specs.Refusal.{Answer, given, refused, _then_, kept-if}
+use Rattle.calculus.specs.Refusal.{Answer, given, refused, _then_}
 use Rattle.calculus.specs.Outcomes.{checked}
 use Rattle.term.specs.FactsOf.{facts-of}
 use Rattle.term.specs.declared.Facts.{Facts}
@@ -12,13 +11,11 @@ use Rattle.term.specs.declared.Refusal.the-variants.{OutsideBounds, TooL
 use Rattle.term.specs.declared.Refusal.the-variants.{InvalidCharacter, UndefinedFreeVariable, TooHigh}
 use Rattle.term.specs.declared.Refusal.the-variants.{EmptyExpression, TooManyNodes, NotATerm, NotAbs}
 use Rattle.term.specs.declared.Refusal.the-variants.{IndexTooGreat, OutputTooShort}
-use Rattle.term.specs.declared.Survey.{Survey}
-use Rattle.term.specs.declared.Survey.the-variants.{Within, Over}
 use Rattle.term.specs.declared.Checked.{Checked}
 use Rattle.term.specs.declared.Checked.the-variants.{Whole, Refused}
 
 -- `refusal-number` and `refusal-values` of `calculus` give 01's number and values for each
-unfoldable pub refusal-of : Refusal → calculus.Refusal
+abbrev pub refusal-of : Refusal → calculus.Refusal
 refusal-of OutsideBounds = calculus.outside-bounds
 refusal-of TooLittleRoom = calculus.too-little-room
 refusal-of TextTooLong = calculus.text-too-long
@@ -33,15 +30,9 @@ refusal-of NotAbs = calculus.not-abs
 refusal-of IndexTooGreat = calculus.index-too-great
 refusal-of (OutputTooShort needed) = calculus.output-too-short needed
 
-unfoldable pub told : Checked → Answer Facts
-unfolding refusal-of
-told (Whole facts) = given facts
-told (Refused e) = refused (refusal-of e)
-
--- what a survey of the whole term comes to: 7, then 9
-abbrev pub judged : ℕ → Survey → Answer Facts
-judged cap Over = refused calculus.too-high
-judged cap (Within facts next) = kept-if (leb (facts .nodes) cap) calculus.too-many-nodes facts
+unfoldable pub check-told : Checked → Answer Facts
+check-told (Whole facts) = given facts
+check-told (Refused e) = refused (refusal-of e)
 
 -- a check of any bytes against a cap: 10, 7, 9, or the facts of the whole term
 unfoldable pub check-of : ℕ → List ℕ → Answer Facts

@@ -7,11 +7,12 @@ ghost use lib.ListN.{length, take, drop};
 ghost use Rattle.calculus.specs.Term.{var};
 ghost use Rattle.calculus.specs.Numbers.{between, from-digits};
 ghost use Rattle.calculus.specs.Bounds.{most-height, greatest-number};
+ghost use Rattle.calculus.specs.Refusal.{refusal-number};
 ghost use Rattle.calculus.specs.Bytes.{decode};
 ghost use Rattle.term.specs.Heads.{head-in};
-ghost use Rattle.term.specs.FactsOf.{facts-of, facts-under, facts-beside};
-ghost use Rattle.term.specs.Surveys.{Scans, Begins, Surveys};
-ghost use Rattle.term.specs.Answers.{told, judged, check-of};
+ghost use Rattle.term.specs.FactsOf.{facts-of};
+ghost use Rattle.term.specs.Surveys.{Scans, Begins, Surveys, facts-under, facts-beside, judged};
+ghost use Rattle.term.specs.Answers.{refusal-of, check-told, check-of};
 
 // The thirteen refusals of document 01, which all crates share.
 pub enum Refusal {
@@ -28,6 +29,27 @@ pub enum Refusal {
     NotAbs,
     IndexTooGreat,
     OutputTooShort(usize),
+}
+
+// A refusal's number in document 01.
+pub fn refusal_number(why: Refusal) -> u64
+    ensures { λ r. ⌜ r ≡ refusal-number (refusal-of why) ⌝ }
+{
+    match why {
+        Refusal::OutsideBounds => 1,
+        Refusal::TooLittleRoom => 2,
+        Refusal::TextTooLong => 3,
+        Refusal::OutsideDomain(_) => 4,
+        Refusal::InvalidCharacter { place: _, code: _ } => 5,
+        Refusal::UndefinedFreeVariable => 6,
+        Refusal::TooHigh => 7,
+        Refusal::EmptyExpression => 8,
+        Refusal::TooManyNodes => 9,
+        Refusal::NotATerm(_) => 10,
+        Refusal::NotAbs => 11,
+        Refusal::IndexTooGreat => 12,
+        Refusal::OutputTooShort(_) => 13,
+    }
 }
 
 // What stands at an offset: a variable with its index, another node, or no node.
@@ -118,13 +140,13 @@ fn scan_all(s: &[u8]) -> Scan
 }
 
 // All that the queries ask of a term under some abstractions, found out by one walk: its nodes, its height, the most
-// abstractions on a path, whether some index is 0 or free, and the greatest of index minus depth.
+// abstractions on a path, whether some index is 0 or free, and how far indices reach beyond their depth.
 pub struct Facts {
     pub nodes: u64,
     pub height: u64,
     pub depth: u64,
     pub free: bool,
-    pub greatest: u64,
+    pub reach: u64,
 }
 
 // The facts of a term and the offset after it, or that it is higher than the room.
@@ -167,7 +189,7 @@ fn of_variable(index: u64, depth: u64) -> Facts
         height: 1,
         depth: 0,
         free: is_free(index, depth),
-        greatest: above(index, depth),
+        reach: above(index, depth),
     }
 }
 
@@ -180,7 +202,7 @@ fn of_abstraction(body: Facts) -> Facts
         height: body.height + 1,
         depth: body.depth + 1,
         free: body.free,
-        greatest: body.greatest,
+        reach: body.reach,
     }
 }
 
@@ -194,7 +216,7 @@ fn of_application(left: Facts, right: Facts) -> Facts
         height: larger(left.height, right.height) + 1,
         depth: larger(left.depth, right.depth),
         free: either(left.free, right.free),
-        greatest: larger(left.greatest, right.greatest),
+        reach: larger(left.reach, right.reach),
     }
 }
 
@@ -224,6 +246,7 @@ fn survey_at(s: &[u8], at: usize, depth: u64, room: u64) -> Survey
             };
             Survey::Within(of_application(left, right), next)
         }
+        // not met: a term begins here
         Head::Nothing => Survey::Over,
     }
 }
@@ -236,7 +259,7 @@ pub enum Checked {
 
 // Refusal 7, then 9.
 fn judge(cap: u64, found: Survey) -> Checked
-    ensures { λ r. ⌜ told r ≡ judged cap found ⌝ }
+    ensures { λ r. ⌜ check-told r ≡ judged cap found ⌝ }
 {
     match found {
         Survey::Over => Checked::Refused(Refusal::TooHigh),
@@ -252,7 +275,7 @@ fn judge(cap: u64, found: Survey) -> Checked
 
 // Refusal 10, then 7, then 9 against a cap, which may be any number.
 pub fn check(cap: u64, s: &[u8]) -> Checked
-    ensures { λ r. ⌜ told r ≡ check-of cap (now (s .entry)) ⌝ }
+    ensures { λ r. ⌜ check-told r ≡ check-of cap (now (s .entry)) ⌝ }
 {
     match scan_all(s) {
         Scan::Broken(at) => Checked::Refused(Refusal::NotATerm(at)),

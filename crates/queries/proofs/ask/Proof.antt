@@ -6,7 +6,8 @@ use borrow.Author.Needs.{needs}
 use Rattle.calculus.specs.Refusal.{given}
 use Rattle.calculus.specs.Outcomes.{query-of, nodes-of, height-of, max-depth-of, max-free-index-of}
 use Rattle.term.specs.FactsOf.{facts-of}
-use Rattle.queries.specs.Answers.{number-told, picked, number-of}
+use Rattle.queries.specs.Answers.{number-told}
+use Rattle.queries.specs.Asking.{picked, number-of}
 use Rattle.queries.specs.declared.Query.{Query}
 use Rattle.queries.specs.declared.Query.the-variants.{Nodes, Height, MaxDepth, MaxFreeIndex}
 use Rattle.queries.proofs.Asking.{asked, refused-alike}

@@ -2,7 +2,7 @@
 use borrow.Author.Needs.{needs}
 use Rattle.calculus.proofs.Coding.{AllBytes}
 use Rattle.queries.specs.Answers.{truth-told}
-use Rattle.queries.proofs.Comparing.{whole-low, low-begins, refuses-first, refuses-second, answers}
+use Rattle.queries.proofs.Comparing.{whole-low, refuses-first, refuses-second, answers}
 use Rattle.queries.proofs.equality.Statement.{statement}
 use Rattle.queries.proofs.equality.Tie as tie
 
@@ -22,7 +22,7 @@ same-at-requires c κs =
     let whole = at-enum-told .enum-told .given .1 in
     let low = whole-low _ (bytes at-shared-slice-known) (at-check .check .ensures) whole in
     let low′ = whole-low _ (bytes′ at-shared-slice-known2) (at-check2 .check2 .ensures) (c .enum-told2 .given .1) in
-    (low, low-begins low′)
+    (low, low′ .begins)
 
 returns : tie.Need-returns
 unfolding truth-told
