@@ -12,7 +12,7 @@ head-of-found (found (lam b) rest) = Abstraction
 head-of-found (found (app l r) rest) = Application
 head-of-found (missing at) = Nothing
 
--- what a kind byte says, whatever its parts are
+-- what a kind byte says: what `of-kind` makes of it where any term is found for each part
 unfoldable pub head-of-kind : ℕ → List ℕ → Head
 unfolding of-kind
 head-of-kind k bs = head-of-found (of-kind (found (var 0)) k bs)
