@@ -1,4 +1,4 @@
-// Runs the queries on the crate's doc examples, on hostile bytes and at every bound; the file `stdout` has the answers.
+// Runs `head_at`, `check` and the queries on doc examples, hostile bytes and at the bounds; `stdout` has the answers.
 use libc::STDOUT_FILENO;
 use queries::Number;
 use queries::Truth;

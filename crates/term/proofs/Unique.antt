@@ -7,7 +7,6 @@ use Rattle.calculus.specs.Refusal as calculus
 use Rattle.calculus.specs.Refusal.{Answer, given, refused}
 use Rattle.term.specs.Heads.{head-in}
 use Rattle.term.specs.Answers.{refusal-of, check-told, check-of}
-use Rattle.term.specs.declared.Facts.{Facts}
 use Rattle.term.specs.declared.Head.{Head}
 use Rattle.term.specs.declared.Refusal.{Refusal}
 use Rattle.term.specs.declared.Refusal.the-variants.{OutsideBounds, TooLittleRoom, TextTooLong, OutsideDomain}
@@ -53,17 +52,18 @@ refusal-back NotAbs = refl
 refusal-back IndexTooGreat = refl
 refusal-back (OutputTooShort needed) = refl
 
-abbrev checked-from : Answer Facts → Checked
-checked-from (given facts) = Whole facts
-checked-from (refused why) = Refused (refusal-from why)
+-- for any enum of answers: a case that gives, and one that refuses
+abbrev pub answer-from : {A R : Type 0} → (A → R) → (Refusal → R) → Answer A → R
+answer-from give refuse (given a) = give a
+answer-from give refuse (refused why) = refuse (refusal-from why)
 
-checked-back : (r : Checked) → checked-from (check-told r) ≡ r
+checked-back : (r : Checked) → answer-from Whole Refused (check-told r) ≡ r
 unfolding check-told
 checked-back (Whole facts) = refl
 checked-back (Refused why) = ap Refused (refusal-back why)
 
 pub one-check : (cap : ℕ) (s : List ℕ) {r q : Checked} → check-told r ≡ check-of cap s → check-told q ≡ check-of cap s → r ≡ q
-one-check cap s e k = one-by check-told checked-from checked-back e k
+one-check cap s e k = one-by check-told (answer-from Whole Refused) checked-back e k
 
 pub one-head : (s : List ℕ) (at : ℕ) {r q : Head} → r ≡ head-in (drop at s) → q ≡ head-in (drop at s) → r ≡ q
 one-head s at e k = e ∙ sym k
