@@ -73,18 +73,18 @@ abbrev pub term-line : Notation → Term → List ℕ
 term-line n t = write-text n t ++ (10 ∷ [])
 
 abbrev pub refused-line : Refusal → List ℕ
-unfolding codes numeral refusal-number
+unfolding codes numeral
 refused-line e = line (codes "refused") (refusal-number e)
 
 abbrev pub report : Notation → Run Term → List ℕ
-unfolding codes numeral write-text refusal-number
+unfolding codes numeral write-text
 report n (finished k t) = line (codes "finished") k ++ term-line n t
 report n (unfinished k t) = line (codes "unfinished") k ++ term-line n t
 report n (refused-after k e) = refused-line e
 
 -- a limit outside its bounds is 1, before the text is read
 abbrev pub done : Job → List ℕ
-unfolding codes numeral write-text refusal-number read-text run next-within put
+unfolding codes numeral write-text read-text run next-within put
 done (job o limit n text) =
     report n
     (cond (limit-allowed limit)
@@ -92,12 +92,12 @@ done (job o limit n text) =
     (refused-after 0 outside-bounds))
 
 abbrev pub done-or-malformed : Option Job → List ℕ
-unfolding codes numeral write-text refusal-number read-text run next-within put
+unfolding codes numeral write-text read-text run next-within put
 done-or-malformed none = refused-line outside-bounds
 done-or-malformed (some j) = done j
 
 -- too many bytes are 3, before the first line is looked at
 unfoldable pub program-of : List ℕ → List ℕ
-unfolding codes numeral write-text refusal-number first-line read-text run next-within put
+unfolding codes numeral write-text first-line read-text run next-within put
 program-of s =
     cond (leb (length s) most-input) (done-or-malformed (first-line s)) (refused-line text-too-long)

@@ -12,6 +12,9 @@ pub const MOST_TEXT: usize = 2097152;
 // The greatest limit of a reduction.
 pub const MOST_STEPS: u64 = 1000000;
 
+// The greatest 64-bit number, and so the greatest index.
+pub const GREATEST_NUMBER: u64 = 18446744073709551615;
+
 // The bytes of coded output, and the numbers of work room, that each node of a cap asks for.
 pub const OUTPUT_PER_NODE: usize = 9;
 

@@ -34,7 +34,7 @@ use Rattle.queries.specs.Comparing.{kind-of, index-of, Decides, holds, f
 use Rattle.queries.specs.declared.Same.{Same}
 use Rattle.queries.specs.declared.Same.the-variants.{Until, Differs}
 
--- HEADS are check-told apart by kind and index
+-- HEADS are told apart by kind and index
 head-from : (kind index : ℕ) → Head
 head-from zero i = Nothing
 head-from (suc zero) i = Variable i

@@ -16,7 +16,7 @@ use Rattle.term.specs.declared.Refusal.the-variants.{IndexTooGreat, Outp
 use Rattle.term.specs.declared.Checked.{Checked}
 use Rattle.term.specs.declared.Checked.the-variants.{Whole, Refused}
 
--- what can be check-told back tells which it is
+-- what can be told back tells which it is
 pub one-by : {A B : Type 0} (to : A → B) (from : B → A) → ((x : A) → from (to x) ≡ x) → {x y : A} {b : B}
     → to x ≡ b → to y ≡ b
     → x ≡ y

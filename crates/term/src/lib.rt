@@ -14,6 +14,12 @@ ghost use Rattle.term.specs.FactsOf.{facts-of};
 ghost use Rattle.term.specs.Surveys.{Scans, Begins, Surveys, facts-under, facts-beside, judged};
 ghost use Rattle.term.specs.Answers.{refusal-of, check-told, check-of};
 
+// The two notations of text.
+pub enum Notation {
+    DeBruijn,
+    Classic,
+}
+
 // The thirteen refusals of document 01, which all crates share.
 pub enum Refusal {
     OutsideBounds,

@@ -1,0 +1,8 @@
+-- What the proofs of several functions use, and that the statement of `print` allows one outcome.
+mod Leaving
+mod Figures
+mod PartTexts
+mod Naming
+mod Walking
+mod Printing
+pub mod Unique
