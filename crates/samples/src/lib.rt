@@ -1,4 +1,6 @@
-// Sample terms of any size, written into a lent buffer for the programs that try and time the code.
+// For the programs that try and time the code: sample terms of any size, written into a lent buffer, and what became of
+// a buffer.
+ghost use Prim.Native.Nat.{_≤_};
 
 // Writes a byte and moves on; at the end of the buffer it does neither.
 fn put(buf: &mut [u8], at: usize, b: u8) -> usize {
@@ -42,6 +44,30 @@ pub fn twig(buf: &mut [u8], at: usize, lams: usize, apps: usize, last: u8) -> us
     variable(buf, to, last)
 }
 
+// A term written root first, a byte a node: `\\` an abstraction, `@` an application, a digit a variable of that index.
+pub fn nodes(buf: &mut [u8], at: usize, marks: &[u8]) -> usize {
+    let mut to = at;
+    let mut i: usize = 0;
+    while i < marks.len() {
+        to = node(buf, to, marks[i]);
+        i += 1;
+    }
+    to
+}
+
+fn node(buf: &mut [u8], at: usize, mark: u8) -> usize {
+    if mark == b'\\' {
+        return put(buf, at, 2);
+    }
+    if mark == b'@' {
+        return put(buf, at, 3);
+    }
+    if mark < b'0' {
+        return at;
+    }
+    variable(buf, at, mark - b'0')
+}
+
 // Twigs applied to what follows, row by row, to the start of the last twig.
 pub fn rows(buf: &mut [u8], at: usize, count: usize, lams: usize, apps: usize) -> usize {
     let mut to = at;
@@ -59,4 +85,40 @@ pub fn first(buf: &[u8], count: usize) -> &[u8] {
     } else {
         buf
     }
+}
+
+fn one_if_other(a: u8, b: u8) -> usize
+    ensures { λ r. ⌜ r ≤ 1 ⌝ }
+{
+    if a == b { 0 } else { 1 }
+}
+
+// How many of the bytes from a place on are not the given one.
+pub fn others(buf: &[u8], from: usize, b: u8) -> usize {
+    let mut count: usize = 0;
+    let mut i = from;
+    while i < buf.len() {
+        count += one_if_other(buf[i], b);
+        i += 1;
+    }
+    count
+}
+
+fn wide(b: u8) -> u64
+    ensures { λ r. ⌜ r ≤ 255 ⌝ }
+{
+    b as u64
+}
+
+// The Adler-32 checksum of bytes.
+pub fn checksum(buf: &[u8]) -> u64 {
+    let mut low: u64 = 1;
+    let mut high: u64 = 0;
+    let mut i: usize = 0;
+    while i < buf.len() {
+        low = (low + wide(buf[i])) % 65521;
+        high = (high + low) % 65521;
+        i += 1;
+    }
+    high * 65536 + low
 }

@@ -1,0 +1,302 @@
+// Runs both printers on doc examples, the examples marked P, indices, names, parentheses and refusals; `stdout` has the
+// texts and what becomes of the lent slice.
+use libc::STDOUT_FILENO;
+use printer::Printed;
+use term::Notation;
+use term::Refusal;
+ghost use mathlib.Core.Path.{_≡_};
+ghost use lib.ListN.{length};
+
+fn say(words: &[u8]) {
+    io::write_all(STDOUT_FILENO, words);
+}
+
+fn number(n: u64) {
+    io::print_decimal(STDOUT_FILENO, n);
+}
+
+// The slices that are lent are full of `~`, which no text has.
+fn buffer() -> [u8; 12000]
+    ensures { λ r. ⌜ 12000 ≡ length r ⌝ }
+{
+    [126; 12000]
+}
+
+fn refused(why: Refusal) {
+    say(b"refused ");
+    number(term::refusal_number(why));
+    if let Refusal::NotATerm(at) = why {
+        say(b" at ");
+        number(at as u64);
+    }
+    if let Refusal::OutputTooShort(needed) = why {
+        say(b", needs ");
+        number(needed as u64);
+    }
+}
+
+// A long text is told by its checksum.
+fn tell_text(text: &[u8]) {
+    if text.len() < 12000 {
+        say(text);
+    } else {
+        say(b"checksum ");
+        number(samples::checksum(text));
+    }
+}
+
+fn tell_changed(count: usize) {
+    if 0 < count {
+        say(b" AND CHANGED ");
+        number(count as u64);
+    }
+    say(b"\n");
+}
+
+// What printing answers and leaves: the text, or the refusal, and how many other bytes were changed.
+fn tell(printed: Printed, out: &[u8]) {
+    match printed {
+        Printed::Length(length) => {
+            number(length as u64);
+            say(b" bytes: ");
+            tell_text(samples::first(out, length));
+            tell_changed(samples::others(out, length, 126));
+        }
+        Printed::Refused(why) => {
+            refused(why);
+            tell_changed(samples::others(out, 0, 126));
+        }
+    }
+}
+
+// Both texts of any bytes.
+fn print_both(s: &[u8], out: &mut [u8], other: &mut [u8]) {
+    let text = printer::print(Notation::DeBruijn, s, out);
+    say(b"  de bruijn, ");
+    tell(text, out);
+    let classic = printer::print(Notation::Classic, s, other);
+    say(b"  classic, ");
+    tell(classic, other);
+}
+
+fn show_bytes(what: &[u8], s: &[u8]) {
+    let mut out = buffer();
+    let mut other = buffer();
+    say(what);
+    say(b"\n");
+    print_both(s, &mut out, &mut other);
+}
+
+// A term written root first, a byte a node, as `samples` has it.
+fn show(marks: &[u8]) {
+    let mut buf = buffer();
+    let end = samples::nodes(&mut buf, 0, marks);
+    show_bytes(marks, samples::first(&buf, end));
+}
+
+// The crate's doc examples of its two texts, and its combinators.
+fn doc_examples() {
+    say(b"-- the crate's doc examples\n");
+    show(b"\\\\\\@@31@21");
+    show(b"0");
+    show(b"\\2");
+    show_bytes(b"15", b"\x01\x0f\0\0\0\0\0\0\0");
+    show_bytes(b"16", b"\x01\x10\0\0\0\0\0\0\0");
+    say(b"-- the crate's combinators\n");
+    show(b"\\1");
+    show(b"\\\\2");
+    show(b"\\@@1\\\\\\@@31@21\\\\2");
+    show(b"\\\\\\@3@21");
+    show(b"\\\\\\@@312");
+    show(b"\\\\@@211");
+    show(b"@\\@11\\@11");
+    show(b"\\@\\@2@11\\@2@11");
+    show(b"\\@\\@2\\@@221\\@2\\@@221");
+    show(b"\\\\@12");
+    show(b"@\\\\@1@@221\\\\@1@@221");
+}
+
+// The terms of the examples marked P that have one.
+fn examples() {
+    say(b"-- the examples marked P\n");
+    show(b"@10");
+    show_bytes(b"P2", b"\x01\x10\0\0\0\0\0\0\0");
+    show(b"1");
+    show(b"\\\\@21");
+    show(b"\\\\@@42\\@13");
+    show(b"\\@51");
+    show(b"\\@@3\\@61\\@1\\@71");
+    show(b"@\\@11\\@11");
+    show(b"@\\2@\\@11\\@11");
+    show(b"@\\@11\\1");
+    show(b"\\1");
+    show_bytes(
+        b"P12",
+        b"\x03\x02\x02\x01\x02\0\0\0\0\0\0\0\x01\xff\xff\xff\xff\xff\xff\xff\xff",
+    );
+    show(b"\\@\\11");
+    show(b"\\@21");
+    show(b"\\@01");
+    show(b"\\\\@@@3\\@4121");
+    show(b"\\@@221");
+    show(b"@11");
+}
+
+// Digits: as many as the highest set bit needs.
+fn indices() {
+    say(b"-- indices\n");
+    show_bytes(b"255", b"\x01\xff\0\0\0\0\0\0\0");
+    show_bytes(b"256", b"\x01\0\x01\0\0\0\0\0\0");
+    show_bytes(b"4095", b"\x01\xff\x0f\0\0\0\0\0\0");
+    show_bytes(b"4096", b"\x01\0\x10\0\0\0\0\0\0");
+    show_bytes(b"2^60 - 1", b"\x01\xff\xff\xff\xff\xff\xff\xff\x0f");
+    show_bytes(b"2^60", b"\x01\0\0\0\0\0\0\0\x10");
+    show_bytes(b"2^63", b"\x01\0\0\0\0\0\0\0\x80");
+    show_bytes(b"2^64 - 1", b"\x01\xff\xff\xff\xff\xff\xff\xff\xff");
+    show_bytes(
+        b"81985529216486895",
+        b"\x01\xef\xcd\xab\x89\x67\x45\x23\x01",
+    );
+}
+
+// The last name of one, two and three letters and the next; a free number that is held at 2^64 - 1.
+fn names() {
+    say(b"-- names\n");
+    show_bytes(b"26", b"\x01\x1a\0\0\0\0\0\0\0");
+    show_bytes(b"27", b"\x01\x1b\0\0\0\0\0\0\0");
+    show_bytes(b"702", b"\x01\xbe\x02\0\0\0\0\0\0");
+    show_bytes(b"703", b"\x01\xbf\x02\0\0\0\0\0\0");
+    show_bytes(b"18278", b"\x01\x66\x47\0\0\0\0\0\0");
+    show_bytes(b"18279", b"\x01\x67\x47\0\0\0\0\0\0");
+    show_bytes(
+        b"\\[FFFFFFFFFFFFFFFF]",
+        b"\x02\x01\xff\xff\xff\xff\xff\xff\xff\xff",
+    );
+    show_bytes(
+        b"(\\1)[FFFFFFFFFFFFFFFE]",
+        b"\x03\x02\x01\x01\0\0\0\0\0\0\0\x01\xfe\xff\xff\xff\xff\xff\xff\xff",
+    );
+    show_bytes(
+        b"(\\1)[FFFFFFFFFFFFFFFF]",
+        b"\x03\x02\x01\x01\0\0\0\0\0\0\0\x01\xff\xff\xff\xff\xff\xff\xff\xff",
+    );
+    show(b"@\\\\@3@214");
+}
+
+// A variable, an abstraction and an application as either part.
+fn parentheses() {
+    say(b"-- parentheses\n");
+    show(b"@12");
+    show(b"@1\\2");
+    show(b"@1@23");
+    show(b"@\\12");
+    show(b"@\\1\\2");
+    show(b"@\\1@23");
+    show(b"@@123");
+    show(b"@@12\\3");
+    show(b"@@12@34");
+    show(b"\\@1\\@2\\3");
+    show(b"@@@1\\@2\\3@45\\@\\@1@234");
+}
+
+fn show_twig(what: &[u8], lams: usize, apps: usize) {
+    let mut buf = buffer();
+    let end = samples::twig(&mut buf, 0, lams, apps, 1);
+    show_bytes(what, samples::first(&buf, end));
+}
+
+// Binders beside others, as the parts of an application.
+fn show_binders(what: &[u8], lams: usize, more: usize) {
+    let mut buf = buffer();
+    let second = samples::rows(&mut buf, 0, 1, lams, 0);
+    let end = samples::twig(&mut buf, second, more, 0, 1);
+    show_bytes(what, samples::first(&buf, end));
+}
+
+fn binders() {
+    say(b"-- binders\n");
+    show_twig(b"511 binders, one in another", 511, 0);
+    show_twig(b"512 binders, one in another", 512, 0);
+    show_binders(b"512 binders in two parts", 256, 256);
+    show_twig(b"511 applications, one in another", 0, 511);
+}
+
+// The first bytes of a slice are lent: the length needed where they are too few.
+fn print_into(what: &[u8], s: &[u8], out: &mut [u8], room: usize) {
+    if out.len() < room {
+        return;
+    }
+    let printed = printer::print(Notation::Classic, s, &mut out[..room]);
+    say(what);
+    tell(printed, out);
+}
+
+fn lend(what: &[u8], s: &[u8], room: usize) {
+    let mut out = buffer();
+    print_into(what, s, &mut out, room);
+}
+
+fn rooms() {
+    say(b"-- room for \\a.\\b.a b, which has 11 bytes\n");
+    let s = b"\x02\x02\x03\x01\x02\0\0\0\0\0\0\0\x01\x01\0\0\0\0\0\0\0";
+    lend(b"0 bytes: ", s, 0);
+    lend(b"10 bytes: ", s, 10);
+    lend(b"11 bytes: ", s, 11);
+    lend(b"12 bytes: ", s, 12);
+    lend(b"99 bytes: ", s, 99);
+    lend(b"100 bytes, 20 a node: ", s, 100);
+}
+
+// The input's refusals come before 13, and nothing is changed.
+fn refusals() {
+    say(b"-- refusals\n");
+    show_bytes(b"no bytes", b"");
+    show_bytes(b"kind 4 in a part", b"\x03\x02\x04");
+    show_bytes(b"a byte left over", b"\x01\x01\0\0\0\0\0\0\0\x02");
+    lend(b"kind 0, no room: ", b"\0", 0);
+    lend(b"1, no room: ", b"\x01\x01\0\0\0\0\0\0\0", 0);
+}
+
+fn large() -> [u8; 400000]
+    ensures { λ r. ⌜ 400000 ≡ length r ⌝ }
+{
+    [126; 400000]
+}
+
+fn print_rows(what: &[u8], first_lams: usize, lams: usize, apps: usize, last_lams: usize) {
+    let mut buf = large();
+    let mut out = large();
+    let mut other = large();
+    let second = samples::rows(&mut buf, 0, 1, first_lams, apps);
+    let last = samples::rows(&mut buf, second, 255, lams, apps);
+    let end = samples::twig(&mut buf, last, last_lams, apps, 1);
+    say(what);
+    say(b"\n");
+    print_both(samples::first(&buf, end), &mut out, &mut other);
+}
+
+fn bounds() {
+    say(b"-- the bounds\n");
+    print_rows(
+        b"65,536 nodes, abstractions under applications",
+        253,
+        253,
+        0,
+        255,
+    );
+    print_rows(b"65,536 nodes, applications of variables", 1, 1, 126, 3);
+    print_rows(b"65,537 nodes", 254, 253, 0, 255);
+    print_rows(b"height 513", 252, 253, 0, 256);
+}
+
+fn main() {
+    doc_examples();
+    examples();
+    indices();
+    names();
+    parentheses();
+    binders();
+    rooms();
+    refusals();
+    bounds();
+}
