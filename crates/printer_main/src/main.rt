@@ -94,109 +94,99 @@ fn show(marks: &[u8]) {
     show_bytes(marks, samples::first(&buf, end));
 }
 
+// Such terms, with a space between two.
+fn show_all(words: &[u8]) {
+    let mut at: usize = 0;
+    for _ in 0..words.len() {
+        if words.len() <= at {
+            return;
+        }
+        let end = samples::word_end(words, at);
+        show(samples::part(words, at, end));
+        at = past(end);
+    }
+}
+
+fn past(at: usize) -> usize {
+    if at < 1000 { at + 1 } else { at }
+}
+
+// A variable of any index.
+fn show_index(index: u64) {
+    let mut buf = buffer();
+    let end = samples::variable(&mut buf, 0, index);
+    say(b"index ");
+    number(index);
+    show_bytes(b"", samples::first(&buf, end));
+}
+
 // The crate's doc examples of its two texts, and its combinators.
 fn doc_examples() {
     say(b"-- the crate's doc examples\n");
-    show(b"\\\\\\@@31@21");
-    show(b"0");
-    show(b"\\2");
-    show_bytes(b"15", b"\x01\x0f\0\0\0\0\0\0\0");
-    show_bytes(b"16", b"\x01\x10\0\0\0\0\0\0\0");
+    show_all(b"\\\\\\@@31@21 0 \\2");
+    show_index(15);
+    show_index(16);
     say(b"-- the crate's combinators\n");
-    show(b"\\1");
-    show(b"\\\\2");
-    show(b"\\@@1\\\\\\@@31@21\\\\2");
-    show(b"\\\\\\@3@21");
-    show(b"\\\\\\@@312");
-    show(b"\\\\@@211");
-    show(b"@\\@11\\@11");
-    show(b"\\@\\@2@11\\@2@11");
-    show(b"\\@\\@2\\@@221\\@2\\@@221");
-    show(b"\\\\@12");
-    show(b"@\\\\@1@@221\\\\@1@@221");
+    show_all(b"\\1 \\\\2 \\@@1\\\\\\@@31@21\\\\2 \\\\\\@3@21 \\\\\\@@312 \\\\@@211");
+    show_all(
+        b"@\\@11\\@11 \\@\\@2@11\\@2@11 \\@\\@2\\@@221\\@2\\@@221 \\\\@12 @\\\\@1@@221\\\\@1@@221",
+    );
 }
 
-// The terms of the examples marked P that have one.
+// The terms of the examples marked P that have one: P1, P5 to P11, P13 to P15; P2 and P12 stand among the indices.
 fn examples() {
     say(b"-- the examples marked P\n");
-    show(b"@10");
-    show_bytes(b"P2", b"\x01\x10\0\0\0\0\0\0\0");
-    show(b"1");
-    show(b"\\\\@21");
-    show(b"\\\\@@42\\@13");
-    show(b"\\@51");
-    show(b"\\@@3\\@61\\@1\\@71");
-    show(b"@\\@11\\@11");
-    show(b"@\\2@\\@11\\@11");
-    show(b"@\\@11\\1");
-    show(b"\\1");
-    show_bytes(
-        b"P12",
-        b"\x03\x02\x02\x01\x02\0\0\0\0\0\0\0\x01\xff\xff\xff\xff\xff\xff\xff\xff",
-    );
-    show(b"\\@\\11");
-    show(b"\\@21");
-    show(b"\\@01");
-    show(b"\\\\@@@3\\@4121");
-    show(b"\\@@221");
-    show(b"@11");
+    show_all(b"@10 1 \\\\@21 \\\\@@42\\@13 \\@51 \\@@3\\@61\\@1\\@71 @\\@11\\@11 @\\2@\\@11\\@11");
+    show_all(b"@\\@11\\1 \\1 \\@\\11 \\@21 \\@01 \\\\@@@3\\@4121 \\@@221 @11");
 }
 
-// Digits: as many as the highest set bit needs.
+// Digits: as many as the highest set bit needs. The last is that of P12.
 fn indices() {
     say(b"-- indices\n");
-    show_bytes(b"255", b"\x01\xff\0\0\0\0\0\0\0");
-    show_bytes(b"256", b"\x01\0\x01\0\0\0\0\0\0");
-    show_bytes(b"4095", b"\x01\xff\x0f\0\0\0\0\0\0");
-    show_bytes(b"4096", b"\x01\0\x10\0\0\0\0\0\0");
-    show_bytes(b"2^60 - 1", b"\x01\xff\xff\xff\xff\xff\xff\xff\x0f");
-    show_bytes(b"2^60", b"\x01\0\0\0\0\0\0\0\x10");
-    show_bytes(b"2^63", b"\x01\0\0\0\0\0\0\0\x80");
-    show_bytes(b"2^64 - 1", b"\x01\xff\xff\xff\xff\xff\xff\xff\xff");
-    show_bytes(
-        b"81985529216486895",
-        b"\x01\xef\xcd\xab\x89\x67\x45\x23\x01",
-    );
+    show_index(255);
+    show_index(256);
+    show_index(4095);
+    show_index(4096);
+    show_index(1152921504606846975);
+    show_index(1152921504606846976);
+    show_index(9223372036854775808);
+    show_index(81985529216486895);
+    show_index(18446744073709551615);
+    show_beside(b"\\\\2", 18446744073709551615);
 }
 
-// The last name of one, two and three letters and the next; a free number that is held at 2^64 - 1.
+// The start of an application and its left part, then a variable.
+fn show_beside(left: &[u8], index: u64) {
+    let mut buf = buffer();
+    let mid = samples::nodes(&mut buf, 0, b"@");
+    let right = samples::nodes(&mut buf, mid, left);
+    let end = samples::variable(&mut buf, right, index);
+    say(left);
+    say(b" before index ");
+    number(index);
+    show_bytes(b"", samples::first(&buf, end));
+}
+
+// The last names of one, two and three letters and the next; a free number that is held at 2^64 - 1.
 fn names() {
     say(b"-- names\n");
-    show_bytes(b"26", b"\x01\x1a\0\0\0\0\0\0\0");
-    show_bytes(b"27", b"\x01\x1b\0\0\0\0\0\0\0");
-    show_bytes(b"702", b"\x01\xbe\x02\0\0\0\0\0\0");
-    show_bytes(b"703", b"\x01\xbf\x02\0\0\0\0\0\0");
-    show_bytes(b"18278", b"\x01\x66\x47\0\0\0\0\0\0");
-    show_bytes(b"18279", b"\x01\x67\x47\0\0\0\0\0\0");
-    show_bytes(
-        b"\\[FFFFFFFFFFFFFFFF]",
-        b"\x02\x01\xff\xff\xff\xff\xff\xff\xff\xff",
-    );
-    show_bytes(
-        b"(\\1)[FFFFFFFFFFFFFFFE]",
-        b"\x03\x02\x01\x01\0\0\0\0\0\0\0\x01\xfe\xff\xff\xff\xff\xff\xff\xff",
-    );
-    show_bytes(
-        b"(\\1)[FFFFFFFFFFFFFFFF]",
-        b"\x03\x02\x01\x01\0\0\0\0\0\0\0\x01\xff\xff\xff\xff\xff\xff\xff\xff",
-    );
+    show_index(26);
+    show_index(27);
+    show_index(702);
+    show_index(703);
+    show_index(18278);
+    show_index(18279);
+    show_beside(b"\\1", 18446744073709551614);
+    show_beside(b"\\1", 18446744073709551615);
     show(b"@\\\\@3@214");
 }
 
 // A variable, an abstraction and an application as either part.
 fn parentheses() {
     say(b"-- parentheses\n");
-    show(b"@12");
-    show(b"@1\\2");
-    show(b"@1@23");
-    show(b"@\\12");
-    show(b"@\\1\\2");
-    show(b"@\\1@23");
-    show(b"@@123");
-    show(b"@@12\\3");
-    show(b"@@12@34");
-    show(b"\\@1\\@2\\3");
-    show(b"@@@1\\@2\\3@45\\@\\@1@234");
+    show_all(
+        b"@12 @1\\2 @1@23 @\\12 @\\1\\2 @\\1@23 @@123 @@12\\3 @@12@34 \\@1\\@2\\3 @@@1\\@2\\3@45\\@\\@1@234",
+    );
 }
 
 fn show_twig(what: &[u8], lams: usize, apps: usize) {

@@ -222,7 +222,7 @@ fn buffer() -> [u8; 68000]
 }
 
 // 256 rows of 255 nodes, of which the first may differ, and a last twig.
-fn put_rows(buf: &mut [u8], first_lams: usize, last_lams: usize, last: u8) -> usize {
+fn put_rows(buf: &mut [u8], first_lams: usize, last_lams: usize, last: u64) -> usize {
     let second = samples::rows(buf, 0, 1, first_lams, 0);
     let twig = samples::rows(buf, second, 255, 253, 0);
     samples::twig(buf, twig, last_lams, 0, last)
@@ -258,7 +258,7 @@ fn bounds() {
     ask_twig(b"512 applications, one in another", 0, 512);
 }
 
-fn compare_rows(what: &[u8], first_lams: usize, other_first: usize, other_last: usize, index: u8) {
+fn compare_rows(what: &[u8], first_lams: usize, other_first: usize, other_last: usize, index: u64) {
     let mut buf = buffer();
     let end = put_rows(&mut buf, first_lams, 255, 1);
     let mut other = buffer();

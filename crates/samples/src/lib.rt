@@ -12,17 +12,23 @@ fn put(buf: &mut [u8], at: usize, b: u8) -> usize {
     }
 }
 
-// A variable of a small index, in its nine bytes.
-pub fn variable(buf: &mut [u8], at: usize, index: u8) -> usize {
+fn wide(b: u8) -> u64
+    ensures { λ r. ⌜ r ≤ 255 ⌝ }
+{
+    b as u64
+}
+
+const INDEX_BYTES: usize = 8;
+
+// A variable, in its nine bytes.
+pub fn variable(buf: &mut [u8], at: usize, index: u64) -> usize {
     let mut to = put(buf, at, 1);
-    to = put(buf, to, index);
-    to = put(buf, to, 0);
-    to = put(buf, to, 0);
-    to = put(buf, to, 0);
-    to = put(buf, to, 0);
-    to = put(buf, to, 0);
-    to = put(buf, to, 0);
-    put(buf, to, 0)
+    let mut rest = index;
+    for _ in 0..INDEX_BYTES {
+        to = put(buf, to, (rest % 256) as u8);
+        rest = rest / 256;
+    }
+    to
 }
 
 // So many abstractions, the start of a term.
@@ -35,7 +41,7 @@ fn abstractions(buf: &mut [u8], at: usize, count: usize) -> usize {
 }
 
 // Abstractions over applications of variable 1 to what follows, to the last variable.
-pub fn twig(buf: &mut [u8], at: usize, lams: usize, apps: usize, last: u8) -> usize {
+pub fn twig(buf: &mut [u8], at: usize, lams: usize, apps: usize, last: u64) -> usize {
     let mut to = abstractions(buf, at, lams);
     for _ in 0..apps {
         to = put(buf, to, 3);
@@ -65,7 +71,7 @@ fn node(buf: &mut [u8], at: usize, mark: u8) -> usize {
     if mark < b'0' {
         return at;
     }
-    variable(buf, at, mark - b'0')
+    variable(buf, at, wide(mark - b'0'))
 }
 
 // Twigs applied to what follows, row by row, to the start of the last twig.
@@ -87,10 +93,33 @@ pub fn first(buf: &[u8], count: usize) -> &[u8] {
     }
 }
 
+// The bytes of a buffer between two places, or none where there are no such places.
+pub fn part(buf: &[u8], from: usize, to: usize) -> &[u8] {
+    if buf.len() < to {
+        return first(buf, 0);
+    }
+    if to < from {
+        return first(buf, 0);
+    }
+    &buf[from..to]
+}
+
 fn one_if_other(a: u8, b: u8) -> usize
     ensures { λ r. ⌜ r ≤ 1 ⌝ }
 {
     if a == b { 0 } else { 1 }
+}
+
+// Where the word that begins at a place ends: at a space, or with the bytes.
+pub fn word_end(words: &[u8], from: usize) -> usize {
+    let mut at = from;
+    while at < words.len() {
+        if words[at] == b' ' {
+            return at;
+        }
+        at += 1;
+    }
+    at
 }
 
 // How many of the bytes from a place on are not the given one.
@@ -102,12 +131,6 @@ pub fn others(buf: &[u8], from: usize, b: u8) -> usize {
         i += 1;
     }
     count
-}
-
-fn wide(b: u8) -> u64
-    ensures { λ r. ⌜ r ≤ 255 ⌝ }
-{
-    b as u64
 }
 
 // The Adler-32 checksum of bytes.
