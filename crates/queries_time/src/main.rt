@@ -21,14 +21,6 @@ fn buffer() -> [u8; 330000]
     [0; 330000]
 }
 
-fn positive(t: i64) -> u64 {
-    if t > 0 { t as u64 } else { 0 }
-}
-
-fn microseconds(from: u64, to: u64) -> u64 {
-    if from < to { to - from } else { 0 }
-}
-
 // What is timed.
 enum Asked {
     Nodes,
@@ -62,19 +54,12 @@ fn one_if(b: bool) -> u64
     if b { 1 } else { 0 }
 }
 
-// The last variable is written anew before each call, so that no call can be left out.
-fn rewrite(buf: &mut [u8], end: usize) {
-    if 9 <= end {
-        samples::variable(buf, end - 9, 1);
-    }
-}
-
 // How many of so many calls answer right.
 fn right_answers(asked: Asked, buf: &mut [u8], end: usize, nodes: u64, calls: u64) -> u64 {
     let mut right: u64 = 0;
     let mut i: u64 = 0;
     while i < calls {
-        rewrite(buf, end);
+        samples::rewrite_last(buf, end);
         right += one_if(answers_right(asked, samples::first(buf, end), nodes));
         i += 1;
     }
@@ -83,9 +68,9 @@ fn right_answers(asked: Asked, buf: &mut [u8], end: usize, nodes: u64, calls: u6
 
 // How many calls answered right goes to standard output, and the time to standard error.
 fn time(asked: Asked, what: &[u8], buf: &mut [u8], end: usize, nodes: u64, calls: u64) {
-    let from = positive(libc::clock());
+    let from = stopwatch::now();
     let right = right_answers(asked, buf, end, nodes, calls);
-    let to = positive(libc::clock());
+    let time = stopwatch::since(from);
     say(STDOUT_FILENO, what);
     number(STDOUT_FILENO, right);
     say(STDOUT_FILENO, b" of ");
@@ -94,7 +79,7 @@ fn time(asked: Asked, what: &[u8], buf: &mut [u8], end: usize, nodes: u64, calls
     say(STDERR_FILENO, what);
     number(STDERR_FILENO, calls);
     say(STDERR_FILENO, b" calls in ");
-    number(STDERR_FILENO, microseconds(from, to));
+    number(STDERR_FILENO, time);
     say(STDERR_FILENO, b" microseconds\n");
 }
 

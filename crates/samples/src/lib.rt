@@ -84,6 +84,13 @@ pub fn rows(buf: &mut [u8], at: usize, count: usize, lams: usize, apps: usize) -
     to
 }
 
+// The variable before the end, written anew: a timed call that comes after it cannot be left out.
+pub fn rewrite_last(buf: &mut [u8], end: usize) {
+    if 9 <= end {
+        variable(buf, end - 9, 1);
+    }
+}
+
 // The first bytes of a buffer, or all of it where it has no more.
 pub fn first(buf: &[u8], count: usize) -> &[u8] {
     if count <= buf.len() {

@@ -1,4 +1,4 @@
--- `queries_time::positive` is safe: what is above 0 is kept by the cast.
+-- `stopwatch::positive` is safe: what is above 0 is kept by the cast.
 use Prim.Native.Nat.{_^_, _<_}
 use mathlib.Core.Path.{_≡_}
 use mathlib.Core.Bool.{true, false≢true}
@@ -10,8 +10,8 @@ use mir.Syntax.{w64}
 use mir.Val.{Fits}
 use mir.Facts.{toZ-ofZ}
 use borrow.Author.Needs.{needs}
-use Rattle.queries_time.proofs.positive.Statement.{statement}
-use Rattle.queries_time.proofs.positive.Tie as tie
+use Rattle.stopwatch.proofs.positive.Statement.{statement}
+use Rattle.stopwatch.proofs.positive.Tie as tie
 
 kept : (z : ℤ) → ltZ (pos 0) z ≡ true → mag z < 2 ^ 63 → T (nonNeg z) × Fits w64 (natAbs z)
 kept (pos n) e h = (tt, record { fits = omega arith })
