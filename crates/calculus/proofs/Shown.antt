@@ -36,7 +36,8 @@ widen (a-sign e s) zero h = absurd (omega arith)
 widen (a-sign e s) (suc zero) h = absurd (omega arith)
 widen (a-sign e s) (suc (suc k)) h = a-sign e (widen s k (omega arith))
 
-append : {signs : Bool} {j k : ℕ} {a b : List ℕ} → Shown signs j a → Shown signs k b → (n : ℕ) → j + k ≤ n → Shown signs n (a ++ b)
+append : {signs : Bool} {j k : ℕ} {a b : List ℕ} → Shown signs j a → Shown signs k b → (n : ℕ) → j + k ≤ n
+    → Shown signs n (a ++ b)
 append nothing t n h = widen t n (omega arith)
 append (plain p q s) t zero h = absurd (omega arith)
 append (plain p q s) t (suc n) h = plain p q (append s t n (omega arith))
@@ -93,7 +94,8 @@ literal (c ∷ cs) e =
     let (p, q) = in-interval 32 126 c head in
     plain p q (literal cs tail)
 
-either : {signs : Bool} (b : Bool) {k : ℕ} {xs ys : List ℕ} → Shown signs k xs → Shown signs k ys → Shown signs k (cond b xs ys)
+either : {signs : Bool} (b : Bool) {k : ℕ} {xs ys : List ℕ} → Shown signs k xs → Shown signs k ys
+    → Shown signs k (cond b xs ys)
 either true s t = s
 either false s t = t
 
@@ -118,7 +120,8 @@ shown-index i = by-size (interval 1 15 i)
     bracketed : {signs : Bool} → Shown signs 17 (numeral 16 16 i ++ (93 ∷ []))
     bracketed = append (shown-numeral 16 i) (literal (93 ∷ []) refl) 17 (omega arith)
 
-    by-size : {signs : Bool} {b : Bool} → Interval 1 15 i b → Shown signs 18 (cond b (figure i ∷ []) (91 ∷ (numeral 16 16 i ++ (93 ∷ []))))
+    by-size : {signs : Bool} {b : Bool} → Interval 1 15 i b
+        → Shown signs 18 (cond b (figure i ∷ []) (91 ∷ (numeral 16 16 i ++ (93 ∷ []))))
     by-size (inside p q) = widen (shown-figure i (omega arith)) 18 (omega arith)
     by-size (outside o) = append (literal (91 ∷ []) refl) bracketed 18 (omega arith)
 
@@ -167,12 +170,14 @@ module _ (n : Notation) (m : ℕ) where
   shown-grouped {k} s =
       append (literal (40 ∷ []) refl) (append s (literal (41 ∷ []) refl) (suc k) (omega arith)) (2 + k) (omega arith)
 
-  shown-left : (t : Term) {k : ℕ} {xs : List ℕ} → Shown true k xs → Shown true (2 + k) (as-left (in-characters n m) t xs)
+  shown-left : (t : Term) {k : ℕ} {xs : List ℕ} → Shown true k xs
+      → Shown true (2 + k) (as-left (in-characters n m) t xs)
   shown-left (var i) {k} s = widen s (2 + k) (omega arith)
   shown-left (lam b) s = shown-grouped s
   shown-left (app l r) {k} s = widen s (2 + k) (omega arith)
 
-  shown-right : (t : Term) {k : ℕ} {xs : List ℕ} → Shown true k xs → Shown true (2 + k) (as-right (in-characters n m) t xs)
+  shown-right : (t : Term) {k : ℕ} {xs : List ℕ} → Shown true k xs
+      → Shown true (2 + k) (as-right (in-characters n m) t xs)
   shown-right (var i) {k} s = widen s (2 + k) (omega arith)
   shown-right (lam b) s = shown-grouped s
   shown-right (app l r) s = shown-grouped s

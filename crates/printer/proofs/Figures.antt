@@ -1,17 +1,16 @@
 -- The hex digits of an index: as many as its highest set bit needs, which the leading zeros tell.
 use Prim.Native.Nat.{ℕ, zero, suc, _+_, _-_, _*_, _/_, _%_, _^_, _≤_, _<_}
 use mathlib.Core.Path.{_≡_, refl, sym, ap, ap₂, _∙_}
-use mathlib.Core.List.{List, [], _∷_, _++_}
+use mathlib.Core.List.{[], _∷_, _++_}
 use native.Mathlib.Omega.{arith}
-use native.Mathlib.Nat.{pow-suc, pow-succ', mul-suc, div-one, div-div-eq-div-mul, div-lt-iff-lt-mul, le-div-iff-mul-le, lt-of-lt-of-le, le-trans, one-le-pow}
-use native.Mathlib.Numerals.{add-one}
+use native.Mathlib.Nat.{pow-suc, pow-succ', mul-suc, div-one, div-div-eq-div-mul, lt-of-lt-of-le, le-trans, one-le-pow}
 use lib.Count.{leadingZeros, leading-top}
 use lib.ListN.{length, length-append}
 use lib.Pow.{pow-add, pow-mono}
 use borrow.Author.Tests.{lt-ltb, le-ltb, lt-leb, le-leb}
-use Rattle.calculus.specs.Numbers.{between, figure, numeral}
+use Rattle.calculus.specs.Numbers.{figure, numeral}
 use Rattle.calculus.specs.Writing.{index-text}
-use Rattle.printer.specs.Parts.{figures}
+use Rattle.printer.specs.Pieces.{figures}
 
 -- the last digit of one more
 figures-last : (k n : ℕ) → figures (suc k) n ≡ figures k (n / 16) ++ (figure (n % 16) ∷ [])

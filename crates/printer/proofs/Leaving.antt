@@ -35,7 +35,8 @@ module _ {before : List ℕ} {from : ℕ} {whole : List ℕ} where
   }
 
   -- nothing is left
-  pub none-left : {out rest : List ℕ} {to : ℕ} → Leaves before from whole out to rest → rest ≡ [] → Puts before from whole to out
+  pub none-left : {out rest : List ℕ} {to : ℕ} → Leaves before from whole out to rest → rest ≡ []
+      → Puts before from whole to out
   none-left {out} {rest} {to} left e = record {
     reached = omega (arith, left .reached, ap length e);
     stored = ap (sets out to) (sym e) ∙ left .stored;

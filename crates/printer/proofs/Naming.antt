@@ -1,6 +1,6 @@
 -- Names letter by letter, of which all but the last are the name of a smaller number; variables and binders by name.
 use Prim.Native.Nat.{ℕ, zero, suc, _+_, _-_, _*_, _/_, _%_, _^_, _≤_, _<_, min}
-use mathlib.Core.Path.{_≡_, refl, sym, ap, _∙_}
+use mathlib.Core.Path.{_≡_, refl, ap, _∙_}
 use mathlib.Core.Bool.{cond}
 use mathlib.Core.List.{List, [], _∷_, _++_}
 use native.Mathlib.Omega.{arith}
@@ -10,10 +10,12 @@ use lib.ListN.{length, length-append}
 use borrow.Author.Tests.{lt-ltb, le-ltb, le-leb, lt-leb}
 use Rattle.calculus.specs.Bounds.{greatest-number}
 use Rattle.calculus.specs.Characters.{bytes, codes}
-use Rattle.calculus.specs.Reading.{Notation, de-bruijn, classic}
 use Rattle.calculus.specs.Writing.{letters, name-text, variable-text}
 use Rattle.calculus.proofs.Shown.{bytes-shown, shown-name}
-use Rattle.printer.specs.Parts.{binder-bytes}
+use Rattle.term.specs.declared.Notation.{Notation}
+use Rattle.term.specs.declared.Notation.the-variants.{DeBruijn, Classic}
+use Rattle.printer.specs.Pieces.{binder-of}
+use Rattle.printer.specs.declared.pieces.Style.{Style}
 use Rattle.printer.proofs.PartTexts.{bytes-append}
 
 -- a number below a power of 26 takes as many letters, and no more
@@ -55,20 +57,26 @@ variable-free m d zero free = absurd (omega arith)
 variable-free m d (suc i) free = rw (lt-leb (suc i) d free)
 
 -- A BINDER: the two bytes of the sign, and in classic text a name and a dot
-pub binder-de-bruijn : (d : ℕ) → binder-bytes de-bruijn d ≡ (0xCE ∷ []) ++ (0xBB ∷ [])
-unfolding binder-bytes
-binder-de-bruijn d = refl
+module _ (w : Style) (d : ℕ) where
+  pub binder-de-bruijn : w .notation ≡ DeBruijn → binder-of w d ≡ (0xCE ∷ []) ++ (0xBB ∷ [])
+  unfolding binder-of
+  binder-de-bruijn e = rw e
 
-pub binder-classic : (d : ℕ) → binder-bytes classic d ≡ (0xCE ∷ []) ++ ((0xBB ∷ []) ++ (name-text d ++ (46 ∷ [])))
-unfolding binder-bytes bytes
-binder-classic d =
-    ap (λ b. 0xCE ∷ 0xBB ∷ b)
-    (bytes-append (name-text d) (46 ∷ []) ∙ ap (λ b. b ++ (46 ∷ [])) (bytes-shown (shown-name d)))
+  pub binder-classic : w .notation ≡ Classic
+      → binder-of w d ≡ (0xCE ∷ []) ++ ((0xBB ∷ []) ++ (name-text d ++ (46 ∷ [])))
+  unfolding binder-of bytes
+  binder-classic e =
+      rw e
+      (ap (λ b. 0xCE ∷ 0xBB ∷ b)
+      (bytes-append (name-text d) (46 ∷ []) ∙ ap (λ b. b ++ (46 ∷ [])) (bytes-shown (shown-name d))))
 
-pub binder-length : (n : Notation) (d : ℕ) → 2 ≤ length (binder-bytes n d)
-binder-length de-bruijn d = omega (arith, ap length (binder-de-bruijn d))
-binder-length classic d = omega (arith, ap length (binder-classic d))
+  pub binder-classic-length : w .notation ≡ Classic → length (binder-of w d) ≡ length (name-text d) + 3
+  binder-classic-length e =
+      omega (arith, ap length (binder-classic e), length-append (name-text d) (46 ∷ []))
 
-pub binder-classic-length : (d : ℕ) → length (binder-bytes classic d) ≡ length (name-text d) + 3
-binder-classic-length d =
-    omega (arith, ap length (binder-classic d), length-append (name-text d) (46 ∷ []))
+  pub binder-length : 2 ≤ length (binder-of w d)
+  binder-length = either (w .notation) refl
+    where
+      either : (n : Notation) → w .notation ≡ n → 2 ≤ length (binder-of w d)
+      either DeBruijn e = omega (arith, ap length (binder-de-bruijn e))
+      either Classic e = omega (arith, binder-classic-length e)

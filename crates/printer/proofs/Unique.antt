@@ -2,7 +2,6 @@
 use Prim.Native.Nat.{ℕ}
 use mathlib.Core.Path.{_≡_, refl, sym, ap, _∙_}
 use mathlib.Core.List.{List}
-use Rattle.calculus.specs.Refusal.{Answer}
 use Rattle.calculus.specs.Reading.{Notation}
 use Rattle.calculus.specs.Outcomes.{print-of}
 use Rattle.term.proofs.Unique.{refusal-back, answer-from, one-by}

@@ -1,4 +1,5 @@
 -- What the code of this crate writes and answers, by the definitions of `calculus`.
 pub mod Puts
+pub mod Pieces
 pub mod Parts
 pub mod Answers

@@ -9,10 +9,9 @@ ghost use Prim.Native.Nat.{_+_, _-_, _≤_, _<_, min};
 ghost use lib.ListN.{length};
 ghost use Rattle.calculus.specs.Bounds.{greatest-number};
 ghost use Rattle.calculus.specs.Numbers.{figure, numeral};
-ghost use Rattle.calculus.specs.Writing.{index-text, name-text, variable-text, text-of-variable, gap-text};
-ghost use Rattle.term.specs.Notations.{notation-of};
+ghost use Rattle.calculus.specs.Writing.{index-text, name-text, variable-text};
 ghost use Rattle.printer.specs.Puts.{Puts};
-ghost use Rattle.printer.specs.Parts.{figures, binder-bytes};
+ghost use Rattle.printer.specs.Pieces.{figures, variable-of, binder-of, gap-of};
 
 // DE BRUIJN: the digit 0 to 9, then A to F.
 fn put_figure(out: &mut [u8], to: usize, digit: u64) -> usize
@@ -104,30 +103,31 @@ fn put_named(out: &mut [u8], to: usize, most: u64, depth: u64, index: u64) -> us
     }
 }
 
+// How a term is written: in which notation, and with how many abstractions on a path at most.
+pub(crate) struct Style {
+    pub notation: Notation,
+    pub most: u64,
+}
+
 // IN EITHER NOTATION: a variable, a binder, the gap between two parts.
-pub(crate) fn put_variable(
-    out: &mut [u8],
-    to: usize,
-    notation: Notation,
-    most: u64,
-    depth: u64,
-    index: u64,
-) -> usize
-    requires { ⌜ to + length (text-of-variable (notation-of notation) most depth index) ≤ greatest-number ⌝ }
-    ensures { λ r. ⌜ Puts (now (out .entry)) to (text-of-variable (notation-of notation) most depth index) r (now (out .exit)) ⌝ }
+pub(crate) fn put_variable(out: &mut [u8], to: usize, style: Style, depth: u64, index: u64) -> usize
+    requires { ⌜ to + length (variable-of style depth index) ≤ greatest-number ⌝ }
+    ensures { λ r. ⌜ Puts (now (out .entry)) to (variable-of style depth index) r (now (out .exit)) ⌝ }
 {
+    let notation = style.notation;
     match notation {
         Notation::DeBruijn => put_index(out, to, index),
-        Notation::Classic => put_named(out, to, most, depth, index),
+        Notation::Classic => put_named(out, to, style.most, depth, index),
     }
 }
 
-pub(crate) fn put_binder(out: &mut [u8], to: usize, notation: Notation, depth: u64) -> usize
-    requires { ⌜ to + length (binder-bytes (notation-of notation) depth) ≤ greatest-number ⌝ }
-    ensures { λ r. ⌜ Puts (now (out .entry)) to (binder-bytes (notation-of notation) depth) r (now (out .exit)) ⌝ }
+pub(crate) fn put_binder(out: &mut [u8], to: usize, style: Style, depth: u64) -> usize
+    requires { ⌜ to + length (binder-of style depth) ≤ greatest-number ⌝ }
+    ensures { λ r. ⌜ Puts (now (out .entry)) to (binder-of style depth) r (now (out .exit)) ⌝ }
 {
     let half = put(out, to, 0xCE);
     let name = put(out, half, 0xBB);
+    let notation = style.notation;
     match notation {
         Notation::DeBruijn => name,
         Notation::Classic => {
@@ -137,10 +137,11 @@ pub(crate) fn put_binder(out: &mut [u8], to: usize, notation: Notation, depth: u
     }
 }
 
-pub(crate) fn put_gap(out: &mut [u8], to: usize, notation: Notation) -> usize
-    requires { ⌜ to + length (gap-text (notation-of notation)) ≤ greatest-number ⌝ }
-    ensures { λ r. ⌜ Puts (now (out .entry)) to (gap-text (notation-of notation)) r (now (out .exit)) ⌝ }
+pub(crate) fn put_gap(out: &mut [u8], to: usize, style: Style) -> usize
+    requires { ⌜ to + length (gap-of style) ≤ greatest-number ⌝ }
+    ensures { λ r. ⌜ Puts (now (out .entry)) to (gap-of style) r (now (out .exit)) ⌝ }
 {
+    let notation = style.notation;
     match notation {
         Notation::DeBruijn => to,
         Notation::Classic => put(out, to, 32),

@@ -1,4 +1,4 @@
-// Times both printers at 1,000, 10,000 and 65,536 nodes: the times go to standard error, the lengths to standard output.
+// Times both printers at 1,000, 10,000 and 65,536 nodes: times go to standard error, lengths to standard output.
 use libc::STDERR_FILENO;
 use libc::STDOUT_FILENO;
 use printer::Printed;

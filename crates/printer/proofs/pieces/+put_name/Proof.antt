@@ -65,8 +65,9 @@ module _ (t : ℕ) where
       let at-if1 = at-put-name .before .before in
       let start = at-if1 .before .before in
       let number = start .args .number in
+      let last = (97 + number % 26) ∷ [] in
       rw (name-of-more number (at-if1 .if1 .left) (start .fits .number .fits))
-      (puts-then (name-text (number / 26 - 1)) ((97 + number % 26) ∷ []) (at-put-name .put-name .ensures) (at-put2 .put2 .ensures))
+      (puts-then (name-text (number / 26 - 1)) last (at-put-name .put-name .ensures) (at-put2 .put2 .ensures))
 
 pub +put-name-spec : {M : Type 1} → statement M
 +put-name-spec = close μ λ t. lts.spec (claims t) (given t) own.Post

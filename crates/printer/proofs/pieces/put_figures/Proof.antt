@@ -5,7 +5,7 @@ use mathlib.Core.List.{[], _∷_}
 use native.Mathlib.Omega.{arith}
 use borrow.Author.Needs.{needs}
 use Rattle.calculus.specs.Numbers.{figure}
-use Rattle.printer.specs.Parts.{figures}
+use Rattle.printer.specs.Pieces.{figures}
 use Rattle.printer.proofs.Leaving.{Leaves, all-left, put-on, none-left, leaves-length}
 use Rattle.printer.proofs.Figures.{length-figures, figures-first}
 use Rattle.printer.proofs.pieces.put_figures.Statement.{statement}
@@ -38,7 +38,10 @@ loop-again c =
     let index = start .args .index in
     let left = at-loop .loop .left in
     let one-more : left ≡ suc (left - 1) = omega arith in
-    (put-on (figure (index / 2 ^ (4 * (left - 1)) % 16) ∷ []) (figures (left - 1) index) (at-loop .loop .inv .0) (figures-first (left - 1) index one-more) (at-put-figure .put-figure .ensures), omega arith)
+    let first = figure (index / 2 ^ (4 * (left - 1)) % 16) ∷ [] in
+    let text = figures-first (left - 1) index one-more in
+    let rest = figures (left - 1) index in
+    (put-on first rest (at-loop .loop .inv .0) text (at-put-figure .put-figure .ensures), omega arith)
 
 same-length : tie.Need-same-length Inv-loop μ-loop
 same-length c = leaves-length _ _ (c .before .loop .inv .0)

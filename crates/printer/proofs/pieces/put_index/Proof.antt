@@ -5,9 +5,10 @@ use mathlib.Core.List.{[], _∷_, _++_}
 use native.Mathlib.Omega.{arith}
 use lib.ListN.{length}
 use borrow.Author.Needs.{needs}
-use Rattle.printer.specs.Parts.{figures}
+use Rattle.printer.specs.Pieces.{figures}
 use Rattle.printer.proofs.Leaving.{puts-then}
-use Rattle.printer.proofs.Figures.{length-figures, index-zero, index-one-digit, index-in-brackets, brackets-length, index-longer}
+use Rattle.printer.proofs.Figures.{length-figures, index-zero, index-one-digit, index-in-brackets}
+use Rattle.printer.proofs.Figures.{brackets-length, index-longer}
 use Rattle.printer.proofs.pieces.put_index.Statement.{statement}
 use Rattle.printer.proofs.pieces.put_index.Tie as tie
 
@@ -36,7 +37,8 @@ returns-2 c =
     let at-if2 = at-put-figure .before .before in
     let at-if1 = at-if2 .before in
     let start = at-if1 .before .before in
-    rw (index-one-digit (start .args .index) (at-if1 .if1 .left) (at-if2 .if2 .taken)) (at-put-figure .put-figure .ensures)
+    rw (index-one-digit (start .args .index) (at-if1 .if1 .left) (at-if2 .if2 .taken))
+    (at-put-figure .put-figure .ensures)
 
 put-requires : tie.Need-put-requires
 put-requires c κs =
@@ -63,7 +65,14 @@ put-requires-2 c κs =
     let index = start .args .index in
     let count = at-figures-needed .figures-needed .result in
     let longer = brackets-length index count (at-if2 .if2 .left) (at-figures-needed .figures-needed .ensures .1) in
-    omega (arith, start .pre, longer, at-put .put .ensures .reached, at-put-figures .put-figures .ensures .reached, length-figures count index)
+    omega (
+      arith,
+      start .pre,
+      longer,
+      at-put .put .ensures .reached,
+      at-put-figures .put-figures .ensures .reached,
+      length-figures count index,
+    )
 
 returns-3 : tie.Need-returns-3
 returns-3 c =
@@ -75,7 +84,8 @@ returns-3 c =
     let start = at-if2 .before .before .before in
     let index = start .args .index in
     let count = at-figures-needed .figures-needed .result in
-    let rest = puts-then (figures count index) (93 ∷ []) (at-put-figures .put-figures .ensures) (at-put2 .put2 .ensures) in
+    let rest = puts-then (figures count index) (93 ∷ []) (at-put-figures .put-figures .ensures)
+    (at-put2 .put2 .ensures) in
     rw (index-in-brackets index count (at-if2 .if2 .left) (at-figures-needed .figures-needed .ensures .1))
     (puts-then (91 ∷ []) (figures count index ++ (93 ∷ [])) (at-put .put .ensures) rest)
 

@@ -27,7 +27,8 @@ put-name-requires : tie.Need-put-name-requires
 put-name-requires c κs =
     let at-if1 = c .before .before in
     let start = at-if1 .before .before in
-    let text = variable-bound (start .args .most) (start .args .depth) (start .args .index) (at-if1 .if1 .left) (c .before .if2 .taken) in
+    let text = variable-bound (start .args .most) (start .args .depth) (start .args .index) (at-if1 .if1 .left)
+    (c .before .if2 .taken) in
     omega (arith, start .pre, ap length text)
 
 put-name-requires-2 : tie.Need-put-name-requires-2
@@ -43,7 +44,9 @@ returns-2 c =
     let at-if2 = at-put-name .before .before in
     let at-if1 = at-if2 .before in
     let start = at-if1 .before .before in
-    rw (variable-bound (start .args .most) (start .args .depth) (start .args .index) (at-if1 .if1 .left) (at-if2 .if2 .taken)) (at-put-name .put-name .ensures)
+    let a = start .args in
+    let text = variable-bound (a .most) (a .depth) (a .index) (at-if1 .if1 .left) (at-if2 .if2 .taken) in
+    rw text (at-put-name .put-name .ensures)
 
 returns-3 : tie.Need-returns-3
 returns-3 c =
@@ -51,7 +54,10 @@ returns-3 c =
     let at-free-name = at-put-name2 .before in
     let at-if2 = at-free-name .before .before in
     let start = at-if2 .before .before .before in
-    rw (variable-free (start .args .most) (start .args .depth) (start .args .index) (at-if2 .if2 .left), ← at-free-name .free-name .ensures) (at-put-name2 .put-name2 .ensures)
+    rw (
+      variable-free (start .args .most) (start .args .depth) (start .args .index) (at-if2 .if2 .left),
+      ← at-free-name .free-name .ensures,
+    ) (at-put-name2 .put-name2 .ensures)
 
 pub put-named-spec : {M : Type 1} → statement M
 put-named-spec =

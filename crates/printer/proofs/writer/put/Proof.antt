@@ -6,7 +6,9 @@ use Rattle.printer.proofs.writer.put.Statement.{statement}
 use Rattle.printer.proofs.writer.put.Tie as tie
 
 returns-2 : tie.Need-returns-2
-returns-2 c = record { reached = refl; stored = sym (set-out (c .before .args .out .now) (c .before .args .to) (c .before .args .b) (c .if1 .left)) }
+returns-2 c =
+    let a = c .before .args in
+    record { reached = refl; stored = sym (set-out (a .out .now) (a .to) (a .b) (c .if1 .left)) }
 
 pub put-spec : {M : Type 1} → statement M
 put-spec =

@@ -37,7 +37,8 @@ loop-again c =
     let text = start .args .text .now in
     let i = at-loop .loop .i in
     let next : suc i ≡ i + 1 = omega arith in
-    let first : drop i text ≡ getD text i 0 ∷ drop (i + 1) text = drop-cons text i 0 (at-loop-test .loop-test .taken) ∙ rw next in
+    let first : drop i text ≡ getD text i 0 ∷ drop (i + 1) text = drop-cons text i 0 (at-loop-test .loop-test .taken)
+    ∙ rw next in
     (put-on (getD text i 0 ∷ []) (drop (i + 1) text) (at-loop .loop .inv .0) first (at-put .put .ensures), omega arith)
 
 same-length : tie.Need-same-length Inv-loop μ-loop

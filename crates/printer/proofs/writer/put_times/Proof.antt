@@ -27,7 +27,12 @@ put-requires c κs =
     let start = at-loop .before .before in
     let times = start .args .times in
     let i = at-loop .loop .i in
-    omega (arith, at-loop .loop .inv .0 .reached, length-replicate times (start .args .b), length-replicate (times - i) (start .args .b))
+    omega (
+      arith,
+      at-loop .loop .inv .0 .reached,
+      length-replicate times (start .args .b),
+      length-replicate (times - i) (start .args .b),
+    )
 
 loop-again : tie.Need-loop-again Inv-loop μ-loop
 loop-again c =
@@ -38,7 +43,9 @@ loop-again c =
     let times = start .args .times in
     let i = at-loop .loop .i in
     let one-more : times - i ≡ suc (times - (i + 1)) = omega arith in
-    (put-on (b ∷ []) (replicate (times - (i + 1)) b) (at-loop .loop .inv .0) (ap (λ k. replicate k b) one-more) (at-put .put .ensures), omega arith)
+    let rest = replicate (times - (i + 1)) b in
+    let text = ap (λ k. replicate k b) one-more in
+    (put-on (b ∷ []) rest (at-loop .loop .inv .0) text (at-put .put .ensures), omega arith)
 
 same-length : tie.Need-same-length Inv-loop μ-loop
 same-length c = leaves-length _ _ (c .before .loop .inv .0)
