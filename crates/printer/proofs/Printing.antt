@@ -30,7 +30,8 @@ use Rattle.term.specs.declared.Checked.{Checked}
 use Rattle.term.specs.declared.Checked.the-variants as checks
 use Rattle.term.proofs.Checking.{decoded-stands, check-whole, check-refused}
 use Rattle.printer.specs.Parts.{part-text, Writable, Writes}
-use Rattle.printer.specs.Answers.{printed-told, StyleOf, Printable, Measures, Fitting, Prints}
+use Rattle.printer.specs.Answers.{printed-told}
+use Rattle.printer.specs.Printing.{StyleOf, Printable, Measures, Fitting, Prints}
 use Rattle.printer.specs.declared.pieces.Style.{Style}
 use Rattle.printer.specs.declared.Part.the-variants.{Whole}
 use Rattle.printer.specs.declared.Reached.{Reached}

@@ -3,3 +3,4 @@ pub mod Puts
 pub mod Pieces
 pub mod Parts
 pub mod Answers
+pub mod Printing

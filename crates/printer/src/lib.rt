@@ -14,7 +14,8 @@ ghost use Rattle.calculus.specs.Bounds.{most-height};
 ghost use Rattle.calculus.specs.Outcomes.{print-of};
 ghost use Rattle.term.specs.Notations.{notation-of};
 ghost use Rattle.printer.specs.Parts.{groups-lam, groups-app, Writable, Writes};
-ghost use Rattle.printer.specs.Answers.{printed-told, Printable, Measures, Fitting, Prints};
+ghost use Rattle.printer.specs.Answers.{printed-told};
+ghost use Rattle.printer.specs.Printing.{Printable, Measures, Fitting, Prints};
 ghost use Rattle.printer.specs.declared.Part.the-variants.{Whole};
 
 // Which part of an application a term is, or none.

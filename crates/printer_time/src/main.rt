@@ -58,6 +58,25 @@ fn print_often(
     length
 }
 
+fn smaller(a: u64, b: u64) -> u64 {
+    if a < b { a } else { b }
+}
+
+const ROUNDS: u64 = 9;
+
+// The least time of some rounds of so many calls.
+fn least_time(notation: Notation, buf: &mut [u8], end: usize, out: &mut [u8], calls: u64) -> u64 {
+    let mut least: u64 = 1000000000;
+    let mut round: u64 = 0;
+    while round < ROUNDS {
+        let from = stopwatch::now();
+        print_often(notation, buf, end, out, calls);
+        least = smaller(least, stopwatch::since(from));
+        round += 1;
+    }
+    least
+}
+
 fn time(
     what: &[u8],
     notation: Notation,
@@ -66,9 +85,8 @@ fn time(
     out: &mut [u8],
     calls: u64,
 ) -> usize {
-    let from = stopwatch::now();
-    let length = print_often(notation, buf, end, out, calls);
-    let time = stopwatch::since(from);
+    let length = print_often(notation, buf, end, out, 1);
+    let time = least_time(notation, buf, end, out, calls);
     title(what);
     number(STDOUT_FILENO, length as u64);
     say(STDOUT_FILENO, b" bytes\n");
@@ -129,11 +147,11 @@ fn time_rows(nodes: u64, count: usize, lams: usize, apps: usize, last_lams: usiz
 
 fn main() {
     title(b"abstractions under applications\n");
-    time_rows(1000, 3, 253, 0, 234, 1639);
-    time_rows(10000, 39, 253, 0, 54, 164);
-    time_rows(65536, 256, 253, 0, 255, 25);
+    time_rows(1000, 3, 253, 0, 234, 327);
+    time_rows(10000, 39, 253, 0, 54, 33);
+    time_rows(65536, 256, 253, 0, 255, 5);
     title(b"applications of variables\n");
-    time_rows(1000, 2, 1, 126, 237, 1639);
-    time_rows(10000, 38, 1, 126, 57, 164);
-    time_rows(65536, 256, 1, 126, 3, 25);
+    time_rows(1000, 2, 1, 126, 237, 327);
+    time_rows(10000, 38, 1, 126, 57, 33);
+    time_rows(65536, 256, 1, 126, 3, 5);
 }
