@@ -3,6 +3,7 @@ use Prim.Native.Nat.{ℕ, zero, suc, _+_, _-_, _*_, _/_, _%_, _^_, _≤_, _<_}
 use mathlib.Core.Path.{_≡_, refl, sym, ap, ap₂, _∙_}
 use mathlib.Core.List.{[], _∷_, _++_}
 use native.Mathlib.Omega.{arith}
+use native.Mathlib.Decide.{decLt}
 use native.Mathlib.Nat.{pow-suc, pow-succ', mul-suc, div-one, div-div-eq-div-mul, lt-of-lt-of-le, le-trans, one-le-pow}
 use lib.Count.{leadingZeros, leading-top}
 use lib.ListN.{length, length-append}
@@ -11,6 +12,14 @@ use borrow.Author.Tests.{lt-ltb, le-ltb, lt-leb, le-leb}
 use Rattle.calculus.specs.Numbers.{figure, numeral}
 use Rattle.calculus.specs.Writing.{index-text}
 use Rattle.printer.specs.Pieces.{figures}
+
+-- a digit's character without a test
+pub figure-sum : (d : ℕ) → d < 16 → 48 + d + (d + 6) / 16 * 7 ≡ figure d
+figure-sum d h =
+    elim (decLt d 10) [
+      | yes low ↦ rw (lt-ltb d 10 low) (omega arith)
+      | no high ↦ rw (le-ltb d 10 (omega arith)) (omega arith)
+    ]
 
 -- the last digit of one more
 figures-last : (k n : ℕ) → figures (suc k) n ≡ figures k (n / 16) ++ (figure (n % 16) ∷ [])

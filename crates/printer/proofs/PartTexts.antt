@@ -30,17 +30,18 @@ abbrev pub closing : Bool → List ℕ
 closing b = cond b (41 ∷ []) []
 
 module _ (w : Style) (d : ℕ) where
-  pub text-of-var : (part : Part) (i : ℕ) → part-text w d part (var i) ≡ variable-of w d i
+  text-of-var : (part : Part) (i : ℕ) → part-text w d part (var i) ≡ variable-of w d i
   unfolding part-text
   text-of-var Whole i = bytes-shown (shown-variable-of (notation-of (w .notation)) (w .most) d i)
   text-of-var Left i = bytes-shown (shown-variable-of (notation-of (w .notation)) (w .most) d i)
   text-of-var Right i = bytes-shown (shown-variable-of (notation-of (w .notation)) (w .most) d i)
 
-  -- parentheses, where there are any, around the bytes of the whole
+  -- the bytes of a text in parentheses
   grouped-bytes : (xs : List ℕ) → bytes (40 ∷ (xs ++ (41 ∷ []))) ≡ 40 ∷ (bytes xs ++ (41 ∷ []))
   unfolding bytes
   grouped-bytes xs = ap (λ b. 40 ∷ b) (bytes-append xs (41 ∷ []))
 
+  -- parentheses, where there are any, around the bytes of the whole
   lam-part : (part : Part) (b : Term)
       → part-text w d part (lam b)
       ≡ opening (groups-lam part) ++ (part-text w d Whole (lam b) ++ closing (groups-lam part))
@@ -90,6 +91,11 @@ between ys g closes e =
     (append-assoc ys (closing g) (replicate closes 41) ∙ ap (λ zs. ys ++ zs) (one-more-closed g closes))
 
 module _ (w : Style) (d : ℕ) (part : Part) (closes : ℕ) where
+  pub pending-var : {t : Term} (i : ℕ) → t ≡ var i
+      → pending w d part t closes ≡ variable-of w d i ++ replicate closes 41
+  pending-var i e =
+      ap (λ u. pending w d part u closes) e ∙ ap (λ xs. xs ++ replicate closes 41) (text-of-var w d part i)
+
   pub pending-lam : (b : Term)
       → let g = groups-lam part in
       pending w d part (lam b) closes

@@ -21,14 +21,14 @@ use Rattle.printer.specs.declared.Part.{Part}
 use Rattle.printer.specs.declared.Part.the-variants.{Whole, Left, Right}
 use Rattle.printer.specs.declared.Reached.{Reached}
 use Rattle.printer.proofs.Leaving.{Leaves, all-left, put-on, none-left, leaves-length}
-use Rattle.printer.proofs.PartTexts.{opening, pending, text-of-var, pending-lam, pending-app}
+use Rattle.printer.proofs.PartTexts.{opening, pending, pending-var, pending-lam, pending-app}
 
 pub at-most-one : (g : Bool) → length (opening g) ≤ 1
 at-most-one true = omega arith
 at-most-one false = omega arith
 
 -- of a whole term, a part is left at this node, and then so many parentheses to close
-pub record Left-of (w : Style) (s : List ℕ) (start above : ℕ) (first : Part) (before : List ℕ) (from : ℕ)
+pub record Remaining (w : Style) (s : List ℕ) (start above : ℕ) (first : Part) (before : List ℕ) (from : ℕ)
     (at depth : ℕ) (part : Part) (closes : ℕ) (out : List ℕ) (to : ℕ) (whole : Term) : Type 0 where
   pub term : Term
   pub stands : Stands s at term
@@ -41,7 +41,7 @@ pub record Left-of (w : Style) (s : List ℕ) (start above : ℕ) (first : Part)
 pub record On (w : Style) (s : List ℕ) (start above : ℕ) (first : Part) (before : List ℕ) (from : ℕ)
     (at depth : ℕ) (part : Part) (closes : ℕ) (out : List ℕ) (to : ℕ) : Type 0 where
   pub on : (whole : Term) → Stands s start whole
-      → Left-of w s start above first before from at depth part closes out to whole
+      → Remaining w s start above first before from at depth part closes out to whole
 
 -- what the calls ask at a variable, at an abstraction, at an application and after its left part
 pub record VariableAsks (w : Style) (s : List ℕ) (at depth index closes to : ℕ) : Type 0 where
@@ -91,8 +91,7 @@ module _ {w : Style} {s : List ℕ} {start above : ℕ} {first : Part} {before :
       puts = λ t st.
           let x = now .on t st in
           let e = is-variable (x .term) h (x .stands) in
-          let text = ap (λ u. pending w depth part u closes) e
-          ∙ ap (λ xs. xs ++ replicate closes 41) (text-of-var w depth part i) in
+          let text = pending-var w depth part closes i e in
           none-left
           (put-on (replicate closes 41) []
           (put-on (variable-of w depth i) (replicate closes 41) (x .left) text put)
@@ -106,8 +105,8 @@ module _ {w : Style} {s : List ℕ} {start above : ℕ} {first : Part} {before :
         → On w s start above first before from (at + 1) (depth + 1) Whole (closes + (place - to)) after to′
     unfolding size height
     at-abstraction {g} {place} h e paren bind =
-        let opened : place - to ≡ length (opening g) = omega (arith, paren .reached) in
-        rw opened (record {
+        let parens : place - to ≡ length (opening g) = omega (arith, paren .reached) in
+        rw parens (record {
           on = λ t st.
               let x = now .on t st in
               let v = is-abstraction (x .term) h (x .stands) in
@@ -132,8 +131,8 @@ module _ {w : Style} {s : List ℕ} {start above : ℕ} {first : Part} {before :
         → On w s start above first before from (r .next) depth Right (closes + (place - to)) after to′
     unfolding size height
     at-application {g} {place} {r = r} h e paren write gap =
-        let paid : place - to ≡ length (opening g) = omega (arith, paren .reached) in
-        rw paid (record {
+        let parens : place - to ≡ length (opening g) = omega (arith, paren .reached) in
+        rw parens (record {
           on = λ t st.
               let x = now .on t st in
               let v = is-application (x .term) h (x .stands) in
@@ -180,8 +179,7 @@ module _ {w : Style} {s : List ℕ} {start above : ℕ} {first : Part} {before :
       variable-asks {i} h =
           let x = now .on (asked .term) (asked .stands) in
           let e = is-variable (x .term) h (x .stands) in
-          let text = ap (λ u. pending w depth part u closes) e
-          ∙ ap (λ xs. xs ++ replicate closes 41) (text-of-var w depth part i) in
+          let text = pending-var w depth part closes i e in
           let all = counted (variable-of w depth i) (replicate closes 41) text in
           record {
             countable = omega (arith, all, length-replicate {A = ℕ} closes 41);

@@ -73,11 +73,11 @@ fn write_part(
         match term::head_at(s, at) {
             Head::Variable(index) => {
                 let end = pieces::put_variable(out, to, style, depth, index);
-                let to = writer::put_times(out, end, 41, closes);
+                let to = writer::put_times(out, end, b')', closes);
                 return Reached { next: at + 9, to };
             }
             Head::Abstraction => {
-                let opened = writer::put_if(out, to, groups_abstraction(part), 40);
+                let opened = writer::put_if(out, to, groups_abstraction(part), b'(');
                 closes += opened - to;
                 to = pieces::put_binder(out, opened, style, depth);
                 depth += 1;
@@ -85,7 +85,7 @@ fn write_part(
                 at += 1;
             }
             Head::Application => {
-                let opened = writer::put_if(out, to, groups_application(part), 40);
+                let opened = writer::put_if(out, to, groups_application(part), b'(');
                 closes += opened - to;
                 let left = write_part(out, opened, style, s, at + 1, depth, Part::Left, room - 1);
                 to = pieces::put_gap(out, left.to, style);

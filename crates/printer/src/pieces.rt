@@ -13,17 +13,14 @@ ghost use Rattle.calculus.specs.Writing.{index-text, name-text, variable-text};
 ghost use Rattle.printer.specs.Puts.{Puts};
 ghost use Rattle.printer.specs.Pieces.{figures, variable-of, binder-of, gap-of};
 
-// DE BRUIJN: the digit 0 to 9, then A to F.
+// DE BRUIJN: the digit 0 to 9, then A to F, seven characters further on. Digits are as good as random, so there is no
+// branch on them.
 fn put_figure(out: &mut [u8], to: usize, digit: u64) -> usize
     requires { ⌜ digit < 16 ⌝ }
     requires { ⌜ to < greatest-number ⌝ }
     ensures { λ r. ⌜ Puts (now (out .entry)) to (figure digit ∷ []) r (now (out .exit)) ⌝ }
 {
-    if digit < 10 {
-        put(out, to, (48 + digit) as u8)
-    } else {
-        put(out, to, (55 + digit) as u8)
-    }
+    put(out, to, (48 + digit + (digit + 6) / 16 * 7) as u8)
 }
 
 // How many hex digits the highest set bit needs.
@@ -60,12 +57,12 @@ fn put_index(out: &mut [u8], to: usize, index: u64) -> usize
     if index < 16 {
         return put_figure(out, to, index);
     }
-    let bracket = put(out, to, 91);
+    let bracket = put(out, to, b'[');
     let end = put_figures(out, bracket, index, figures_needed(index));
-    put(out, end, 93)
+    put(out, end, b']')
 }
 
-// CLASSIC: the name of a number. Each letter but the last asks for one more call, of at most 14.
+// CLASSIC: the name of a number. Each letter but the last is one more call, so there are at most 14.
 fn put_name(out: &mut [u8], to: usize, number: u64) -> usize
     requires { ⌜ to + length (name-text number) ≤ greatest-number ⌝ }
     ensures { λ r. ⌜ Puts (now (out .entry)) to (name-text number) r (now (out .exit)) ⌝ }
@@ -132,7 +129,7 @@ pub(crate) fn put_binder(out: &mut [u8], to: usize, style: Style, depth: u64) ->
         Notation::DeBruijn => name,
         Notation::Classic => {
             let dot = put_name(out, name, depth);
-            put(out, dot, 46)
+            put(out, dot, b'.')
         }
     }
 }
@@ -144,6 +141,6 @@ pub(crate) fn put_gap(out: &mut [u8], to: usize, style: Style) -> usize
     let notation = style.notation;
     match notation {
         Notation::DeBruijn => to,
-        Notation::Classic => put(out, to, 32),
+        Notation::Classic => put(out, to, b' '),
     }
 }

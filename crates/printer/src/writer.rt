@@ -1,5 +1,4 @@
-// The text writer: each function puts bytes at a place of a lent slice and returns the place after them. What lies past
-// the end is counted and not stored, so that one walk over a term both measures a text and writes it.
+// The text writer: each function puts bytes at a place of a lent slice and returns the place after them.
 ghost use mathlib.Core.Bool.{cond};
 ghost use mathlib.Core.List.{[], _∷_};
 ghost use Prim.Native.Nat.{_+_, _≤_, _<_};
@@ -7,6 +6,7 @@ ghost use lib.ListN.{length, replicate};
 ghost use Rattle.calculus.specs.Bounds.{greatest-number};
 ghost use Rattle.printer.specs.Puts.{Puts};
 
+// Past the end a byte is counted and not stored, so that one walk both measures a text and writes it.
 pub(crate) fn put(out: &mut [u8], to: usize, b: u8) -> usize
     requires { ⌜ to < greatest-number ⌝ }
     ensures { λ r. ⌜ Puts (now (out .entry)) to (b ∷ []) r (now (out .exit)) ⌝ }

@@ -1,5 +1,4 @@
-// Runs both printers on doc examples, the examples marked P, indices, names, parentheses and refusals; `stdout` has the
-// texts and what becomes of the lent slice.
+// Runs both printers on examples, refusals and at the bounds; `stdout` has the texts and what became of the slice.
 use libc::STDOUT_FILENO;
 use printer::Printed;
 use term::Notation;
@@ -98,17 +97,13 @@ fn show(marks: &[u8]) {
 fn show_all(words: &[u8]) {
     let mut at: usize = 0;
     for _ in 0..words.len() {
-        if words.len() <= at {
-            return;
-        }
         let end = samples::word_end(words, at);
         show(samples::part(words, at, end));
-        at = past(end);
+        if words.len() <= end {
+            return;
+        }
+        at = end + 1;
     }
-}
-
-fn past(at: usize) -> usize {
-    if at < 1000 { at + 1 } else { at }
 }
 
 // A variable of any index.
@@ -127,13 +122,14 @@ fn doc_examples() {
     show_index(15);
     show_index(16);
     say(b"-- the crate's combinators\n");
-    show_all(b"\\1 \\\\2 \\@@1\\\\\\@@31@21\\\\2 \\\\\\@3@21 \\\\\\@@312 \\\\@@211");
+    show_all(b"\\1 \\\\2 \\@@1\\\\\\@@31@21\\\\2 \\\\\\@3@21 \\\\\\@@312 \\\\@@211 \\@11");
     show_all(
         b"@\\@11\\@11 \\@\\@2@11\\@2@11 \\@\\@2\\@@221\\@2\\@@221 \\\\@12 @\\\\@1@@221\\\\@1@@221",
     );
 }
 
-// The terms of the examples marked P that have one: P1, P5 to P11, P13 to P15; P2 and P12 stand among the indices.
+// The terms of the examples marked P that have one: P1, P5 to P11, P13 to P15. P2 stands among the doc examples, P12
+// among the indices.
 fn examples() {
     say(b"-- the examples marked P\n");
     show_all(b"@10 1 \\\\@21 \\\\@@42\\@13 \\@51 \\@@3\\@61\\@1\\@71 @\\@11\\@11 @\\2@\\@11\\@11");
@@ -167,7 +163,8 @@ fn show_beside(left: &[u8], index: u64) {
     show_bytes(b"", samples::first(&buf, end));
 }
 
-// The last names of one, two and three letters and the next; a free number that is held at 2^64 - 1.
+// The last names of one, two and three letters and the next; a free number that is held at 2^64 - 1; free variables
+// under binders and beside them.
 fn names() {
     say(b"-- names\n");
     show_index(26);
@@ -212,29 +209,31 @@ fn binders() {
 }
 
 // The first bytes of a slice are lent: the length needed where they are too few.
-fn print_into(what: &[u8], s: &[u8], out: &mut [u8], room: usize) {
+fn print_into(notation: Notation, s: &[u8], out: &mut [u8], room: usize) {
     if out.len() < room {
         return;
     }
-    let printed = printer::print(Notation::Classic, s, &mut out[..room]);
-    say(what);
+    let printed = printer::print(notation, s, &mut out[..room]);
     tell(printed, out);
 }
 
-fn lend(what: &[u8], s: &[u8], room: usize) {
+fn lend(what: &[u8], notation: Notation, s: &[u8], room: usize) {
     let mut out = buffer();
-    print_into(what, s, &mut out, room);
+    say(what);
+    print_into(notation, s, &mut out, room);
 }
 
 fn rooms() {
-    say(b"-- room for \\a.\\b.a b, which has 11 bytes\n");
+    say(b"-- room for \\a.\\b.a b, which has 11 bytes, and 6 as \\\\21\n");
     let s = b"\x02\x02\x03\x01\x02\0\0\0\0\0\0\0\x01\x01\0\0\0\0\0\0\0";
-    lend(b"0 bytes: ", s, 0);
-    lend(b"10 bytes: ", s, 10);
-    lend(b"11 bytes: ", s, 11);
-    lend(b"12 bytes: ", s, 12);
-    lend(b"99 bytes: ", s, 99);
-    lend(b"100 bytes, 20 a node: ", s, 100);
+    lend(b"0 bytes: ", Notation::Classic, s, 0);
+    lend(b"10 bytes: ", Notation::Classic, s, 10);
+    lend(b"11 bytes: ", Notation::Classic, s, 11);
+    lend(b"12 bytes: ", Notation::Classic, s, 12);
+    lend(b"99 bytes: ", Notation::Classic, s, 99);
+    lend(b"100 bytes, 20 a node: ", Notation::Classic, s, 100);
+    lend(b"de bruijn, 5 bytes: ", Notation::DeBruijn, s, 5);
+    lend(b"de bruijn, 6 bytes: ", Notation::DeBruijn, s, 6);
 }
 
 // The input's refusals come before 13, and nothing is changed.
@@ -243,8 +242,13 @@ fn refusals() {
     show_bytes(b"no bytes", b"");
     show_bytes(b"kind 4 in a part", b"\x03\x02\x04");
     show_bytes(b"a byte left over", b"\x01\x01\0\0\0\0\0\0\0\x02");
-    lend(b"kind 0, no room: ", b"\0", 0);
-    lend(b"1, no room: ", b"\x01\x01\0\0\0\0\0\0\0", 0);
+    lend(b"kind 0, no room: ", Notation::Classic, b"\0", 0);
+    lend(
+        b"1, no room: ",
+        Notation::Classic,
+        b"\x01\x01\0\0\0\0\0\0\0",
+        0,
+    );
 }
 
 fn large() -> [u8; 400000]

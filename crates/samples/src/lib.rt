@@ -1,5 +1,4 @@
-// For the programs that try and time the code: sample terms of any size, written into a lent buffer, and what became of
-// a buffer.
+// For the programs that try and time the code: sample terms of any size, and what became of a lent buffer.
 ghost use Prim.Native.Nat.{_≤_};
 
 // Writes a byte and moves on; at the end of the buffer it does neither.
@@ -50,7 +49,7 @@ pub fn twig(buf: &mut [u8], at: usize, lams: usize, apps: usize, last: u64) -> u
     variable(buf, to, last)
 }
 
-// A term written root first, a byte a node: `\\` an abstraction, `@` an application, a digit a variable of that index.
+// A term written root first, a byte a node: `\` an abstraction, `@` an application, a digit a variable of that index.
 pub fn nodes(buf: &mut [u8], at: usize, marks: &[u8]) -> usize {
     let mut to = at;
     let mut i: usize = 0;
@@ -68,6 +67,7 @@ fn node(buf: &mut [u8], at: usize, mark: u8) -> usize {
     if mark == b'@' {
         return put(buf, at, 3);
     }
+    // no mark: nothing is written
     if mark < b'0' {
         return at;
     }

@@ -12,7 +12,6 @@ use Rattle.printer.proofs.Walking.{at-most-one}
 use Rattle.printer.proofs.Walking.{VariableAsks, AbstractionAsks, ApplicationAsks, GapAsks}
 use Rattle.printer.proofs.Walking.{on-length, variable-asks, abstraction-asks, application-asks, left-asks}
 use Rattle.printer.proofs.Walking.{gap-asks}
-use Prim.Native.Nat.{ℕ, _<_}
 use borrow.Fn.Kinds.{In}
 use borrow.Fn.PlainCycle.{Measures, is, falls, and}
 use Rattle.printer.proofs.write_part.Reads as own
@@ -243,10 +242,7 @@ module _ (t : ℕ) where
       )
 
   put-gap-requires : lts.Need-put-gap-requires (claims t) (given t) own.Post Inv-loop μ-loop
-  put-gap-requires c κs =
-      let at-write-part = c .before .before .before in
-      let written = left-written at-write-part in
-      written .countable
+  put-gap-requires c κs = left-written (c .before .before .before) .countable
 
   loop-less-2 : lts.Need-loop-less-2 (claims t) (given t) own.Post Inv-loop μ-loop
   loop-less-2 c = omega (arith, left-written (c .before .before .before .before .before .before))

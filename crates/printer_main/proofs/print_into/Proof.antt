@@ -8,7 +8,7 @@ use Rattle.printer_main.proofs.print_into.Tie as tie
 
 slice-aggregate-print : tie.Need-slice-aggregate-print
 slice-aggregate-print c =
-    let start = c .before .before .before .before .before in
+    let start = c .before .before .before .before in
     sym (length-take-le (start .args .room) (start .args .out .now) (omega arith))
 
 pub print-into-spec : {M : Type 1} → statement M
@@ -18,7 +18,6 @@ print-into-spec =
     (λ c. search needs)
     (λ c. search needs)
     slice-aggregate-print
-    (λ c κs. search needs)
     (λ c κs. search needs)
     (λ c κs. search needs)
     (λ c. search needs)

@@ -8,7 +8,6 @@ use borrow.Author.Needs.{needs}
 use Rattle.calculus.specs.Writing.{name-text}
 use Rattle.printer.proofs.Leaving.{puts-then}
 use Rattle.printer.proofs.Naming.{name-of-one, name-of-more, name-longer}
-use Prim.Native.Nat.{ℕ, _<_}
 use borrow.Fn.Kinds.{In}
 use borrow.Fn.PlainCycle.{Measures, is, falls, and}
 use Rattle.printer.proofs.pieces.put_name.Reads as own
