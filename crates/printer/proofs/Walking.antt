@@ -23,9 +23,14 @@ use Rattle.printer.specs.declared.Reached.{Reached}
 use Rattle.printer.proofs.Leaving.{Leaves, all-left, put-on, none-left, leaves-length}
 use Rattle.printer.proofs.PartTexts.{opening, pending, pending-var, pending-lam, pending-app}
 
-pub at-most-one : (g : Bool) → length (opening g) ≤ 1
+at-most-one : (g : Bool) → length (opening g) ≤ 1
 at-most-one true = omega arith
 at-most-one false = omega arith
+
+-- one parenthesis is put, or none
+pub opened-by : (g : Bool) {out mid : List ℕ} {to place : ℕ} → Puts out to (opening g) place mid
+    → (to ≤ place) × (place ≤ to + 1)
+opened-by g put = (omega (arith, put .reached), omega (arith, put .reached, at-most-one g))
 
 -- of a whole term, a part is left at this node, and then so many parentheses to close
 pub record Remaining (w : Style) (s : List ℕ) (start above : ℕ) (first : Part) (before : List ℕ) (from : ℕ)

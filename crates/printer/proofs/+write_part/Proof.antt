@@ -8,7 +8,7 @@ use Rattle.term.specs.Heads.{head-in}
 use Rattle.term.specs.declared.Head.the-variants.{Variable, Abstraction, Application}
 use Rattle.printer.proofs.Leaving.{puts-length}
 use Rattle.printer.proofs.Walking.{On, at-first, at-variable, at-abstraction, at-application, at-nothing}
-use Rattle.printer.proofs.Walking.{at-most-one}
+use Rattle.printer.proofs.Walking.{opened-by}
 use Rattle.printer.proofs.Walking.{VariableAsks, AbstractionAsks, ApplicationAsks, GapAsks}
 use Rattle.printer.proofs.Walking.{on-length, variable-asks, abstraction-asks, application-asks, left-asks}
 use Rattle.printer.proofs.Walking.{gap-asks}
@@ -169,10 +169,8 @@ module _ (t : ℕ) where
   add-closes : lts.Need-add-closes (claims t) (given t) own.Post Inv-loop μ-loop
   add-closes c =
       let at-put-if = c .before .before in
-      let at-groups-abstraction = at-put-if .before in
-      let at-enum-told = at-groups-abstraction .before .before in
-      let one = at-most-one (at-groups-abstraction .groups-abstraction .result) in
-      omega (arith, lam-asks at-enum-told, at-put-if .put-if .ensures .reached, one)
+      let one = opened-by (at-put-if .before .groups-abstraction .result) (at-put-if .put-if .ensures) in
+      omega (arith, lam-asks (at-put-if .before .before .before), one)
 
   put-binder-requires : lts.Need-put-binder-requires (claims t) (given t) own.Post Inv-loop μ-loop
   put-binder-requires c κs =
@@ -217,10 +215,8 @@ module _ (t : ℕ) where
   add-closes-2 : lts.Need-add-closes-2 (claims t) (given t) own.Post Inv-loop μ-loop
   add-closes-2 c =
       let at-put-if2 = c .before .before in
-      let at-groups-application = at-put-if2 .before in
-      let at-enum-told2 = at-groups-application .before .before in
-      let one = at-most-one (at-groups-application .groups-application .result) in
-      omega (arith, app-asks at-enum-told2, at-put-if2 .put-if2 .ensures .reached, one)
+      let one = opened-by (at-put-if2 .before .groups-application .result) (at-put-if2 .put-if2 .ensures) in
+      omega (arith, app-asks (at-put-if2 .before .before .before), one)
 
   add-write-part : lts.Need-add-write-part (claims t) (given t) own.Post Inv-loop μ-loop
   add-write-part c = omega (arith, app-asks (c .before .before .before .before .before .before))
