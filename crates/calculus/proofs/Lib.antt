@@ -17,5 +17,6 @@ pub mod Moves
 pub mod Sequences
 pub mod Shown
 pub mod Names
+pub mod Putting
 mod Examples
 mod Readings

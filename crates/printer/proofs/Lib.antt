@@ -1,5 +1,4 @@
 -- What the proofs of several functions use, and that the statement of `print` allows one outcome.
-mod Leaving
 mod Figures
 mod PartTexts
 mod Naming

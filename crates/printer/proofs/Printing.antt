@@ -2,21 +2,21 @@
 use Prim.Native.Nat.{ℕ, _+_, _*_, _≤_, _<_}
 use mathlib.Core.Path.{_≡_, refl, sym, ap, ap₂, _∙_}
 use mathlib.Core.Bool.{Bool, true, false, cond}
-use mathlib.Core.List.{List, _++_}
+use mathlib.Core.List.{List}
 use native.Mathlib.Omega.{arith}
 use native.Mathlib.Nat.{zero-add}
 use lib.Dec.{leb}
-use lib.ListN.{length, drop}
-use lib.Seq.{sets, sets-eq}
+use lib.ListN.{length}
 use borrow.Author.Tests.{leb-true, le-leb, lt-leb}
 use Rattle.calculus.specs.Term.{Term, nodes}
 use Rattle.calculus.specs.Bounds.{most-nodes, most-height}
 use Rattle.calculus.specs.Refusal.{given}
 use Rattle.calculus.specs.Queries.{max-depth}
 use Rattle.calculus.specs.Writing.{characters-written, write-text}
-use Rattle.calculus.specs.Outcomes.{laid-over, stored, print-of}
+use Rattle.calculus.specs.Outcomes.{stored, print-of}
 use Rattle.calculus.proofs.Coding.{AllBytes}
 use Rattle.calculus.proofs.Judged.{checked-given}
+use Rattle.calculus.proofs.Putting.{laid}
 use Rattle.calculus.proofs.Shown.{text-length}
 use Rattle.term.specs.Answers.{check-told, check-of}
 use Rattle.term.specs.FactsOf.{facts-of}
@@ -99,10 +99,6 @@ needs-so : (b : Bool) {needed : ℕ} (length : ℕ) → Needs needed ≡ cond b 
     → (b ≡ false) × (needed ≡ length)
 needs-so true length e = let never : _≡_ {A = ℕ} 0 1 = cc in absurd (omega arith)
 needs-so false length e = (refl, cc)
-
--- a text that is put at the start of a slice that holds it is laid over the slice
-laid : (text out : List ℕ) → length text ≤ length out → sets out 0 text ≡ laid-over text out
-laid text out h = sets-eq text out 0 (omega arith) ∙ ap (λ k. text ++ drop k out) (zero-add (length text))
 
 -- WHAT A WHOLE TERM COMES TO: 13, or the text
 module _ {w : Style} {count : ℕ} {s out : List ℕ} {fit : Fit} (fits : Fitting w count s (length out) fit) where

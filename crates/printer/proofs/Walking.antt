@@ -13,14 +13,14 @@ use Rattle.term.specs.Heads.{head-in}
 use Rattle.term.specs.Surveys.{Stands}
 use Rattle.term.specs.declared.Head.the-variants.{Variable, Abstraction, Application, Nothing}
 use Rattle.term.proofs.Places.{IsApplication, is-variable, is-abstraction, is-application, is-something, size-within}
-use Rattle.printer.specs.Puts.{Puts}
+use Rattle.calculus.proofs.Putting.{Puts}
 use Rattle.printer.specs.Pieces.{variable-of, binder-of, gap-of}
 use Rattle.printer.specs.Parts.{groups-lam, groups-app, part-text, Writable, Writes}
 use Rattle.printer.specs.declared.pieces.Style.{Style}
 use Rattle.printer.specs.declared.Part.{Part}
 use Rattle.printer.specs.declared.Part.the-variants.{Whole, Left, Right}
 use Rattle.printer.specs.declared.Reached.{Reached}
-use Rattle.printer.proofs.Leaving.{Leaves, all-left, put-on, none-left, leaves-length}
+use Rattle.calculus.proofs.Putting.{Leaves, all-left, put-on, none-left, leaves-length}
 use Rattle.printer.proofs.PartTexts.{opening, pending, pending-var, pending-lam, pending-app}
 
 at-most-one : (g : Bool) → length (opening g) ≤ 1

@@ -1,5 +1,4 @@
 -- What the code of this crate writes and answers, by the definitions of `calculus`.
-pub mod Puts
 pub mod Pieces
 pub mod Parts
 pub mod Answers

@@ -10,7 +10,7 @@ use Rattle.calculus.specs.Characters.{bytes}
 use Rattle.calculus.specs.Writing.{Layout, as-left, as-right, written, binder-text, text-of-variable}
 use Rattle.calculus.proofs.Sizes.{size}
 use Rattle.term.specs.Surveys.{Stands}
-use Rattle.printer.specs.Puts.{Puts}
+use Rattle.calculus.proofs.Putting.{Puts}
 use Rattle.printer.specs.Pieces.{layout-of}
 use Rattle.printer.specs.declared.pieces.Style.{Style}
 use Rattle.printer.specs.declared.Part.{Part}

@@ -10,7 +10,7 @@ ghost use lib.ListN.{length};
 ghost use Rattle.calculus.specs.Bounds.{greatest-number};
 ghost use Rattle.calculus.specs.Numbers.{figure, numeral};
 ghost use Rattle.calculus.specs.Writing.{index-text, name-text, variable-text};
-ghost use Rattle.printer.specs.Puts.{Puts};
+ghost use Rattle.calculus.proofs.Putting.{Puts};
 ghost use Rattle.printer.specs.Pieces.{figures, variable-of, binder-of, gap-of};
 
 // DE BRUIJN: the digit 0 to 9, then A to F, seven characters further on. Digits are as good as random, so there is no

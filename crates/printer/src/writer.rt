@@ -4,7 +4,7 @@ ghost use mathlib.Core.List.{[], _∷_};
 ghost use Prim.Native.Nat.{_+_, _≤_, _<_};
 ghost use lib.ListN.{length, replicate};
 ghost use Rattle.calculus.specs.Bounds.{greatest-number};
-ghost use Rattle.printer.specs.Puts.{Puts};
+ghost use Rattle.calculus.proofs.Putting.{Puts};
 
 // Past the end a byte is counted and not stored, so that one walk both measures a text and writes it.
 pub(crate) fn put(out: &mut [u8], to: usize, b: u8) -> usize

@@ -6,7 +6,7 @@ use lib.ListN.{length, drop}
 use borrow.Author.Needs.{needs}
 use Rattle.term.specs.Heads.{head-in}
 use Rattle.term.specs.declared.Head.the-variants.{Variable, Abstraction, Application}
-use Rattle.printer.proofs.Leaving.{puts-length}
+use Rattle.calculus.proofs.Putting.{puts-length}
 use Rattle.printer.proofs.Walking.{On, at-first, at-variable, at-abstraction, at-application, at-nothing}
 use Rattle.printer.proofs.Walking.{opened-by}
 use Rattle.printer.proofs.Walking.{VariableAsks, AbstractionAsks, ApplicationAsks, GapAsks}

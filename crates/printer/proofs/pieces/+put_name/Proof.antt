@@ -6,7 +6,7 @@ use native.Mathlib.Omega.{arith}
 use lib.ListN.{length}
 use borrow.Author.Needs.{needs}
 use Rattle.calculus.specs.Writing.{name-text}
-use Rattle.printer.proofs.Leaving.{puts-then}
+use Rattle.calculus.proofs.Putting.{puts-then}
 use Rattle.printer.proofs.Naming.{name-of-one, name-of-more, name-longer}
 use borrow.Fn.Kinds.{In}
 use borrow.Fn.PlainCycle.{Measures, is, falls, and}

@@ -4,7 +4,7 @@ use mathlib.Core.List.{[], _∷_, _++_}
 use native.Mathlib.Omega.{arith}
 use borrow.Author.Needs.{needs}
 use Rattle.calculus.specs.Writing.{name-text}
-use Rattle.printer.proofs.Leaving.{puts-then}
+use Rattle.calculus.proofs.Putting.{puts-then}
 use Rattle.printer.proofs.Naming.{binder-de-bruijn, binder-classic, binder-length, binder-classic-length}
 use Rattle.printer.proofs.pieces.put_binder.Statement.{statement}
 use Rattle.printer.proofs.pieces.put_binder.Tie as tie

@@ -6,7 +6,7 @@ use native.Mathlib.Omega.{arith}
 use borrow.Author.Needs.{needs}
 use Rattle.calculus.specs.Numbers.{figure}
 use Rattle.printer.specs.Pieces.{figures}
-use Rattle.printer.proofs.Leaving.{Leaves, all-left, put-on, none-left, leaves-length}
+use Rattle.calculus.proofs.Putting.{Leaves, all-left, put-on, none-left, leaves-length}
 use Rattle.printer.proofs.Figures.{length-figures, figures-first}
 use Rattle.printer.proofs.pieces.put_figures.Statement.{statement}
 use Rattle.printer.proofs.pieces.put_figures.Tie as tie

@@ -1,7 +1,7 @@
 -- `printer::pieces::put_gap` meets its contract in either notation.
 use native.Mathlib.Omega.{arith}
 use borrow.Author.Needs.{needs}
-use Rattle.printer.proofs.Leaving.{puts-none}
+use Rattle.calculus.proofs.Putting.{puts-none}
 use Rattle.printer.proofs.pieces.put_gap.Statement.{statement}
 use Rattle.printer.proofs.pieces.put_gap.Tie as tie
 

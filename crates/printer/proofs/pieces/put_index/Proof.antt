@@ -6,7 +6,7 @@ use native.Mathlib.Omega.{arith}
 use lib.ListN.{length}
 use borrow.Author.Needs.{needs}
 use Rattle.printer.specs.Pieces.{figures}
-use Rattle.printer.proofs.Leaving.{puts-then}
+use Rattle.calculus.proofs.Putting.{puts-then}
 use Rattle.printer.proofs.Figures.{length-figures, index-zero, index-one-digit, index-in-brackets}
 use Rattle.printer.proofs.Figures.{brackets-length, index-longer}
 use Rattle.printer.proofs.pieces.put_index.Statement.{statement}

@@ -6,7 +6,7 @@ use native.Mathlib.Omega.{arith}
 use lib.ListN.{length, drop, getD, length-drop, drop-of-length-le}
 use lib.Seq.{drop-cons}
 use borrow.Author.Needs.{needs}
-use Rattle.printer.proofs.Leaving.{Leaves, all-left, put-on, none-left, leaves-length}
+use Rattle.calculus.proofs.Putting.{Leaves, all-left, put-on, none-left, leaves-length}
 use Rattle.printer.proofs.writer.put_all.Statement.{statement}
 use Rattle.printer.proofs.writer.put_all.Tie as tie
 

@@ -1,7 +1,7 @@
 -- `printer::writer::put_if` meets its contract.
 use native.Mathlib.Omega.{arith}
 use borrow.Author.Needs.{needs}
-use Rattle.printer.proofs.Leaving.{puts-none}
+use Rattle.calculus.proofs.Putting.{puts-none}
 use Rattle.printer.proofs.writer.put_if.Statement.{statement}
 use Rattle.printer.proofs.writer.put_if.Tie as tie
 

@@ -6,7 +6,7 @@ use native.Mathlib.Omega.{arith}
 use native.Mathlib.Nat.{sub-zero}
 use lib.ListN.{replicate, length-replicate}
 use borrow.Author.Needs.{needs}
-use Rattle.printer.proofs.Leaving.{Leaves, all-left, put-on, none-left, leaves-length}
+use Rattle.calculus.proofs.Putting.{Leaves, all-left, put-on, none-left, leaves-length}
 use Rattle.printer.proofs.writer.put_times.Statement.{statement}
 use Rattle.printer.proofs.writer.put_times.Tie as tie
 

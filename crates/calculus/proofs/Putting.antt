@@ -1,12 +1,17 @@
--- Texts put one after another: what is left of a text to be put, at the place that is reached.
-use Prim.Native.Nat.{ℕ, suc, _+_}
+-- Bytes put into a slice one after another: what is put, and what is left to be put at the place that is reached.
+use Prim.Native.Nat.{ℕ, suc, _+_, _≤_}
 use mathlib.Core.Path.{_≡_, refl, sym, ap, _∙_}
 use mathlib.Core.List.{List, [], _∷_, _++_}
 use native.Mathlib.Omega.{arith}
-use native.Mathlib.Nat.{add-zero}
-use lib.ListN.{length, set, length-append}
-use lib.Seq.{sets, length-sets}
-use Rattle.printer.specs.Puts.{Puts}
+use native.Mathlib.Nat.{add-zero, zero-add}
+use lib.ListN.{length, set, drop, length-append}
+use lib.Seq.{sets, sets-eq, length-sets}
+use Rattle.calculus.specs.Outcomes.{laid-over}
+
+-- a text is put at a place, and the place after it is told; what lies past the end is not stored
+pub record Puts (before : List ℕ) (from : ℕ) (text : List ℕ) (to : ℕ) (after : List ℕ) : Type 0 where
+  pub reached : to ≡ from + length text
+  pub stored : after ≡ sets before from text
 
 -- once the rest is put at `to` of `out`, the whole is put at `from` of `before`
 pub record Leaves (before : List ℕ) (from : ℕ) (whole out : List ℕ) (to : ℕ) (rest : List ℕ) : Type 0 where
@@ -61,3 +66,7 @@ puts-none = record { reached = omega arith; stored = refl }
 pub puts-length : {before after : List ℕ} {from to : ℕ} (xs : List ℕ) → Puts before from xs to after
     → length after ≡ length before
 puts-length {before} {from = from} xs put = ap length (put .stored) ∙ length-sets before from xs
+
+-- a text that is put at the start of a slice that holds it is laid over the slice
+pub laid : (text out : List ℕ) → length text ≤ length out → sets out 0 text ≡ laid-over text out
+laid text out h = sets-eq text out 0 (omega arith) ∙ ap (λ k. text ++ drop k out) (zero-add (length text))

@@ -1,0 +1,7 @@
+-- Laws of the store that the proofs use, and the crates above.
+pub mod Keeping
+pub mod Making
+pub mod Parts
+pub mod Loading
+pub mod Coding
+pub mod Saving

@@ -1,0 +1,77 @@
+use borrow.Author.Needs.{needs}
+use Rattle.parser.proofs.parse.Statement.{statement}
+use Rattle.parser.proofs.parse.Tie as tie
+use Rattle.parser.proofs.parse.Reads as reads
+use Rattle.parser.proofs.parse.Lts as lts
+use Rattle.nodes.proofs.clear.Reads as clear-reads
+use Rattle.parser.proofs.read.Reads as read-reads
+
+-- src/lib.rt:92:9
+returns : tie.Need-returns
+returns c = ?
+
+-- src/lib.rt:95:9
+returns-2 : tie.Need-returns-2
+returns-2 c = ?
+
+-- src/lib.rt:98:20
+mul-if3 : tie.Need-mul-if3
+mul-if3 c = search needs
+
+-- src/lib.rt:99:9
+returns-3 : tie.Need-returns-3
+returns-3 c = ?
+
+-- src/lib.rt:101:16
+mul-lent : tie.Need-mul-lent
+mul-lent c = search needs
+
+-- src/lib.rt:103:9
+returns-4 : tie.Need-returns-4
+returns-4 c = ?
+
+-- src/lib.rt:105:50
+slice-relend-prefix-read : tie.Need-slice-relend-prefix-read
+slice-relend-prefix-read c = search needs
+
+-- src/lib.rt:105:50
+slice-aggregate-read : tie.Need-slice-aggregate-read
+slice-aggregate-read c = ?
+
+-- src/lib.rt:105:9
+read-requires : tie.Need-read-requires
+read-requires c κs = ?
+
+-- src/lib.rt:106:5
+clear-requires : tie.Need-clear-requires
+clear-requires c κs = search needs
+
+-- src/lib.rt:88:1
+same-length : tie.Need-same-length
+same-length c = search needs
+
+-- src/lib.rt:88:1
+same-length-2 : tie.Need-same-length-2
+same-length-2 c = search needs
+
+-- src/lib.rt:88:1
+returns-5 : tie.Need-returns-5
+returns-5 c = ?
+
+pub parse-spec : {M : Type 1} → statement M
+parse-spec =
+    tie.close
+    (tie.spec
+    returns
+    returns-2
+    mul-if3
+    returns-3
+    mul-lent
+    returns-4
+    slice-relend-prefix-read
+    slice-aggregate-read
+    read-requires
+    clear-requires
+    same-length
+    same-length-2
+    returns-5)

@@ -1,0 +1,52 @@
+use borrow.Author.Needs.{needs}
+use Rattle.parser.proofs.read.Statement.{statement}
+use Rattle.parser.proofs.read.Tie as tie
+use Rattle.parser.proofs.read.Reads as reads
+use Rattle.parser.proofs.read.Lts as lts
+use Rattle.parser.proofs.build.Reads as build-reads
+use Rattle.words.proofs.judge.Reads as judge-reads
+
+-- src/lib.rt:81:11
+judge-requires : tie.Need-judge-requires
+judge-requires c κs = search needs
+
+-- src/lib.rt:82:25
+enum-known-why : tie.Need-enum-known-why
+enum-known-why c = search needs
+
+-- src/lib.rt:83:52
+enum-told : tie.Need-enum-told
+enum-told c = search needs
+
+-- src/lib.rt:83:25
+build-requires : tie.Need-build-requires
+build-requires c κs = ?
+
+-- src/lib.rt:77:1
+returns : tie.Need-returns
+returns c = ?
+
+-- src/lib.rt:77:1
+same-length : tie.Need-same-length
+same-length c = search needs
+
+-- src/lib.rt:77:1
+same-length-2 : tie.Need-same-length-2
+same-length-2 c = search needs
+
+-- src/lib.rt:77:1
+returns-2 : tie.Need-returns-2
+returns-2 c = ?
+
+pub read-spec : {M : Type 1} → statement M
+read-spec =
+    tie.close
+    (tie.spec
+    judge-requires
+    enum-known-why
+    enum-told
+    build-requires
+    returns
+    same-length
+    same-length-2
+    returns-2)

@@ -1,0 +1,123 @@
+// The next word in De Bruijn's notation.
+use crate::Cursor;
+use crate::Step;
+use crate::Word;
+use crate::bytes::hex_value;
+use crate::unnamed;
+ghost use mathlib.Core.Path.{_≡_};
+ghost use Prim.Native.Nat.{_+_, _≤_, _<_};
+ghost use lib.ListN.{length, getD};
+ghost use Rattle.calculus.specs.DeBruijn.{first-word};
+ghost use Rattle.words.specs.Places.{Clean, Placed, remains};
+ghost use Rattle.words.specs.Steps.{taken, Last, Tells};
+
+impl Cursor {
+    // The index in the brackets that open here.
+    fn bracketed(self, text: &[u8]) -> Step
+        requires { ⌜ Clean (now text) × Placed (now text) self × (self .at < length (now text)) ⌝ }
+        requires { ⌜ getD (now text) (self .at) 0 ≡ 91 ⌝ }
+        ensures { λ r. ⌜ Tells (now (text .entry)) self (first-word (remains (now (text .entry)) (self .at))) r
+            × (self .at + taken (r .word) ≤ r .next .at) × Last (now (text .entry)) r ⌝ }
+    {
+        let mut here = self.past(text);
+        let first = here.at;
+        if text.len() <= first {
+            return Step {
+                word: Word::Invalid,
+                next: self,
+            };
+        }
+        let mut index = hex_value(text[first]);
+        if 15 < index {
+            return Step {
+                word: Word::Invalid,
+                next: here,
+            };
+        }
+        here = here.past(text);
+        while here.at < text.len() {
+            let at = here.at;
+            let b = text[at];
+            if b == 93 {
+                return Step {
+                    word: Word::Number(index),
+                    next: here.past(text),
+                };
+            }
+            let d = hex_value(b);
+            if 15 < d {
+                return Step {
+                    word: Word::Invalid,
+                    next: here,
+                };
+            }
+            if 1152921504606846975 < index {
+                return Step {
+                    word: Word::Invalid,
+                    next: here,
+                };
+            }
+            index = index * 16 + d;
+            here = here.past(text);
+        }
+        Step {
+            word: Word::Invalid,
+            next: self,
+        }
+    }
+
+    // The word that begins here, white space being passed, in De Bruijn's notation.
+    pub(crate) fn first_de_bruijn(self, text: &[u8]) -> Step
+        requires { ⌜ Clean (now text) × Placed (now text) self ⌝ }
+        ensures { λ r. ⌜ Tells (now (text .entry)) self (first-word (remains (now (text .entry)) (self .at))) r
+            × (self .at + taken (r .word) ≤ r .next .at) × Last (now (text .entry)) r ⌝ }
+    {
+        let at = self.at;
+        if text.len() <= at {
+            return Step {
+                word: Word::End,
+                next: self,
+            };
+        }
+        let b = text[at];
+        if b == 91 {
+            return self.bracketed(text);
+        }
+        let next = self.past(text);
+        if b == 92 {
+            return Step {
+                word: Word::Binder(unnamed(next.at)),
+                next,
+            };
+        }
+        if b == 206 {
+            return Step {
+                word: Word::Binder(unnamed(next.at)),
+                next,
+            };
+        }
+        if b == 40 {
+            return Step {
+                word: Word::Left,
+                next,
+            };
+        }
+        if b == 41 {
+            return Step {
+                word: Word::Right,
+                next,
+            };
+        }
+        let d = hex_value(b);
+        if d < 16 {
+            return Step {
+                word: Word::Number(d),
+                next,
+            };
+        }
+        Step {
+            word: Word::Invalid,
+            next: self,
+        }
+    }
+}
