@@ -7,3 +7,4 @@ mod Meeting
 mod Turns
 mod Nesting
 mod Saving
+mod Answering

@@ -56,7 +56,6 @@ inside-stops {n} {s} {os} {w = w} {after = after} long (no-more deep) st ps =
 inside-stops {n} {s} {os} {w = w} {after = after} {e = e} long (one-more few (to-a-refusal goes)) st ps =
     goes-refused (open-of s w) os (words-on n s (after .at)) st ps (refusal-of e) (omega arith) goes
 
-
 -- ONE MORE OPEN, or 7
 module _ {n : Notation} {s names : List ℕ} {count : ℕ} {store : List ℕ} {most : ℕ} {from : Cursor} {base : ℕ}
     (ready : Ready n s names count store most from base) where
@@ -99,7 +98,7 @@ module _ {n : Notation} {s names : List ℕ} {count : ℕ} {store : List ℕ} {m
   nested-stops {e = e} is groups = record {
     comes = to-a-refusal (stops so-far (refusal-of e)
         (λ st ps. rw (met .ahead)
-          (inside-stops (opens-length s names count) (rw (is, same-open so-far) at (groups .enters)) st ps)));
+        (inside-stops (opens-length s names count) (rw (is, same-open so-far) at (groups .enters)) st ps)));
     kept = kept-then (omega arith) (so-far .kept) (groups .kept);
     same = same-then (means-grows (so-far .reaches .means)) (so-far .same) (groups .same);
   }
@@ -114,8 +113,14 @@ module _ {n : Notation} {s names : List ℕ} {count : ℕ} {store : List ℕ} {m
 
     pub last-few : Ready n s names count store most from base → inner .used ≤ 2 * most-text
     last-few ready =
-        omega (arith, so-far .reaches .spent, ready .few, inside .reaches .spent, inside .reaches .step .placed .inside,
-        ready .clean .short)
+        omega (
+          arith,
+          so-far .reaches .spent,
+          ready .few,
+          inside .reaches .spent,
+          inside .reaches .step .placed .inside,
+          ready .clean .short,
+        )
 
     pub went-on : (here .at < last .at) × (last .at ≤ length s)
     went-on =
@@ -154,8 +159,8 @@ module _ {n : Notation} {s names : List ℕ} {count : ℕ} {store : List ℕ} {m
         (joins .means base (so-far .state) (inside .state) (means-kept (groups .same) (so-far .reaches .means))
         (reaches .means))
         (λ st ps. rw (rw (eq-eqb w 0 zero) at (met .ahead))
-          (goes-group (opens s names count) (words-on n s (after .at)) (words-on n s (last .at)) closed st
-          (inside .state) ps few-there (rw (eq-eqb w 0 zero) at (inside .goes)) (inside .last)))
+        (goes-group (opens s names count) (words-on n s (after .at)) (words-on n s (last .at)) closed st
+        (inside .state) ps few-there (rw (eq-eqb w 0 zero) at (inside .goes)) (inside .last)))
 
     -- AN ABSTRACTION: its body, and so its sequence, ends where the rest of the sequence ends
     body-ends : (w ≡ 0 → ⊥) → {store‴ : List ℕ} {more : Built} → JoinsUnder store″ most read inner store‴ more

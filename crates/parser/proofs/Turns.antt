@@ -72,7 +72,7 @@ module _ {n : Notation} {s names : List ℕ} {count : ℕ} {store : List ℕ} {m
       → more .used + 2 * here .at ≤ read .used + 2 * after .at → Kept names′ names″ count → Same store′ store″ (read .used)
       → Means store″ most base (more .used) (more .part) (beside (so-far .state) inner)
       → ((st : State) (ps : List Waits) → go (opens s names count) (words-on n s (here .at)) st ps
-        ≡ go (opens s names count) (words-on n s (after .at)) (beside st inner) ps)
+      ≡ go (opens s names count) (words-on n s (after .at)) (beside st inner) ps)
       → SoFar n s names count store most from base names″ store″ after more
   one-item {after = after} more inner step spent kept same means goes = record {
     state = beside (so-far .state) inner;

@@ -1,3 +1,5 @@
+use Rattle.parser.proofs.Answering.{ready-first, works-stopped, storable, works-on}
+use mathlib.Core.Path.{refl}
 use borrow.Author.Needs.{needs}
 use Rattle.parser.proofs.build.Statement.{statement}
 use Rattle.parser.proofs.build.Tie as tie
@@ -12,7 +14,7 @@ slice-aggregate-sequence c = search needs
 
 -- src/lib.rt:66:11
 sequence-requires : tie.Need-sequence-requires
-sequence-requires c κs = ?
+sequence-requires c κs = ready-first _ refl (c .before .before .before .before .before .pre .0) (c .before .before .before .before .before .pre .1) (c .before .before .before .before .before .pre .2)
 
 -- src/lib.rt:67:23
 enum-known-why : tie.Need-enum-known-why
@@ -24,7 +26,7 @@ enum-known-read c = search needs
 
 -- src/lib.rt:72:14
 save-requires : tie.Need-save-requires
-save-requires c κs = ?
+save-requires c κs = storable (c .before .before .before .before .before .before .before .before .sequence .ensures) _ _ _ (c .before .before .before .read .given .1) (c .before .before .before .before .before .before .before .before .before .before .before .before .before .before .pre .0)
 
 -- src/lib.rt:60:1
 same-length : tie.Need-same-length
@@ -32,7 +34,7 @@ same-length c = search needs
 
 -- src/lib.rt:60:1
 returns : tie.Need-returns
-returns c = ?
+returns c = works-stopped (c .before .before .before .before .before .before .sequence .ensures) _ _ (c .before .why .given .1)
 
 -- src/lib.rt:60:1
 same-length-2 : tie.Need-same-length-2
@@ -44,7 +46,7 @@ same-length-3 c = search needs
 
 -- src/lib.rt:60:1
 returns-2 : tie.Need-returns-2
-returns-2 c = ?
+returns-2 c = works-on (c .before .before .before .before .before .before .before .before .before .before .before .sequence .ensures) _ _ _ (c .before .before .before .before .before .before .read .given .1) (c .before .before .save .ensures)
 
 pub build-spec : {M : Type 1} → statement M
 build-spec =

@@ -1,3 +1,4 @@
+use Rattle.parser.proofs.Answering.{is-clean, is-valid, works-text, works-refused}
 use borrow.Author.Needs.{needs}
 use Rattle.parser.proofs.read.Statement.{statement}
 use Rattle.parser.proofs.read.Tie as tie
@@ -20,11 +21,13 @@ enum-told c = search needs
 
 -- src/lib.rt:83:25
 build-requires : tie.Need-build-requires
-build-requires c κs = ?
+build-requires c κs =
+    let fine = rw (c .before .before .enum-told .given .1) at (c .before .before .before .before .judge .ensures) in
+    (c .before .before .before .before .before .before .before .before .pre, is-clean _ _ fine, is-valid _ _ fine)
 
 -- src/lib.rt:77:1
 returns : tie.Need-returns
-returns c = ?
+returns c = works-refused _ _ _ _ _ _ (rw (c .before .why .given .1) at (c .before .before .before .judge .ensures))
 
 -- src/lib.rt:77:1
 same-length : tie.Need-same-length
@@ -36,7 +39,7 @@ same-length-2 c = search needs
 
 -- src/lib.rt:77:1
 returns-2 : tie.Need-returns-2
-returns-2 c = ?
+returns-2 c = works-text _ _ _ (rw (c .before .before .before .before .before .before .before .enum-told .given .1) at (c .before .before .before .before .before .before .before .before .before .judge .ensures)) (c .before .before .before .before .build .ensures)
 
 pub read-spec : {M : Type 1} → statement M
 read-spec =
