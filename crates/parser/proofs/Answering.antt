@@ -1,28 +1,27 @@
 -- From the sequences to what `parse` answers: the walk of the whole text, 3 to 9 in their order, and 1 and 2 before.
 use Prim.Native.Nat.{ℕ, _+_, _*_, _≤_, _<_}
 use mathlib.Core.Path.{_≡_, refl, sym, ap, ap₂, _∙_}
-use mathlib.Core.Bool.{Bool, true, false, _&&_}
+use mathlib.Core.Bool.{Bool, true, false}
 use mathlib.Core.List.{List, [], _++_}
 use mathlib.Core.Option.{none}
 use native.Mathlib.Omega.{arith}
-use lib.Dec.{leb}
 use lib.ListN.{length, take, drop, replicate, length-replicate}
 use lib.Seq.{length-take-le, drop-at}
 use borrow.Author.Tests.{le-leb, lt-leb}
 use Rattle.calculus.specs.Term.{Term}
 use Rattle.calculus.specs.Bounds.{most-nodes, most-open, most-text, output-per-node, room-per-node}
-use Rattle.calculus.specs.Refusal.{Answer, given, refused, _then_, outside-bounds, too-little-room}
+use Rattle.calculus.specs.Refusal.{Answer, given, refused, _then_}
 use Rattle.calculus.specs.Characters.{characters}
 use Rattle.calculus.specs.Words.{Word, words}
 use Rattle.calculus.specs.Walk.{walk}
 use Rattle.calculus.specs.Judging.{within}
 use Rattle.calculus.specs.Reading.{Notation, next, characters-of, read-text}
-use Rattle.calculus.specs.Outcomes.{stored, coded, laid-over, cleared, cap-allowed, suffice, parse-of}
+use Rattle.calculus.specs.Outcomes.{cleared, parse-of}
 use Rattle.term.specs.Answers.{refusal-of}
 use Rattle.term.specs.declared.Refusal.{Refusal}
 use Rattle.term.specs.declared.Refusal.the-variants.{OutsideBounds, TooLittleRoom}
-use Rattle.words.specs.Places.{Clean, Placed, remains}
-use Rattle.words.specs.Judging.{Judges, Passes, is-fine, is-refused}
+use Rattle.words.specs.Places.{Clean, remains}
+use Rattle.words.specs.Judging.{Judges, is-fine, is-refused}
 use Rattle.words.specs.declared.Cursor.{Cursor}
 use Rattle.words.specs.declared.Judged.the-variants as judged
 use Rattle.words.proofs.Ahead.{words-at, ahead-start}
@@ -31,18 +30,19 @@ use Rattle.parser.specs.Opens.{opens}
 use Rattle.parser.specs.States.{State, reading, parsed-on, go, ended}
 use Rattle.parser.specs.Tokens.{words-on, Valid}
 use Rattle.parser.specs.Sequences.{Ready, Ends, Comes, to-its-end, to-a-refusal, Reads}
-use Rattle.parser.specs.Parsing.{Lent, Stores, at-the-end, Storable, Saves, Works}
+use Rattle.parser.specs.Parsing.{Lent, Stores, Storable, Saves, Works}
 use Rattle.parser.specs.declared.building.Built.{Built}
 use Rattle.parser.specs.declared.sequences.Went.{Went}
 use Rattle.parser.specs.declared.sequences.Went.the-variants.{On, Stopped}
 use Rattle.parser.specs.declared.Parsed.{Parsed}
-use Rattle.parser.specs.declared.Parsed.the-variants.{Length, Refused}
+use Rattle.parser.specs.declared.Parsed.the-variants.{Refused}
 
 abbrev start : Cursor
 start = record { at = 0; chars = 0 }
 
 -- THE WHOLE TEXT is one sequence, with nothing open
-pub ready-first : {n : Notation} {s : List ℕ} {most : ℕ} {out store : List ℕ} (names : List ℕ) → length names ≡ most-open
+pub ready-first : {n : Notation} {s : List ℕ} {most : ℕ} {out store : List ℕ} (names : List ℕ)
+    → length names ≡ most-open
     → Lent most out store → Clean s → Valid n s 0 → Ready n s names 0 store most start 0
 unfolding remains
 ready-first names long lent clean valid = record {
@@ -74,7 +74,11 @@ module _ {n : Notation} {s names : List ℕ} {most : ℕ} {store : List ℕ} {r 
 
   pub works-stopped : (e : Refusal) (out : List ℕ) → r ≡ Stopped e
       → Works (go [] (words-on n s 0) (reading none) [] then within most) out store (Refused e) out store′
-  works-stopped e out is = record { stores = refused-stores e out (stopped (rw is at comes-to)); as-long = reads .same .as-long }
+  works-stopped e out is = record {
+    stores = refused-stores e out
+        (stopped (rw is at comes-to));
+    as-long = reads .same .as-long;
+  }
     where
       stopped : Comes n s [] most start 0 store′ (Stopped e)
           → (go [] (words-on n s 0) (reading none) [] then within most) ≡ refused (refusal-of e)
@@ -84,7 +88,8 @@ module _ {n : Notation} {s names : List ℕ} {most : ℕ} {store : List ℕ} {r 
     ends : Ends n s [] most start 0 store′ read here closed
     ends = end-of (rw is at comes-to)
       where
-        end-of : Comes n s [] most start 0 store′ (On read here closed) → Ends n s [] most start 0 store′ read here closed
+        end-of : Comes n s [] most start 0 store′ (On read here closed)
+            → Ends n s [] most start 0 store′ read here closed
         end-of (to-its-end e) = e
 
     pub storable : {out : List ℕ} → Lent most out store → Storable store′ most read out
@@ -136,7 +141,8 @@ module _ (n : Notation) (s : List ℕ) where
   works-text most fine works = rw (reads-text most fine) at works
 
   -- or the first of them is the answer
-  judged-refused : (most : ℕ) (e : Refusal) → Judges n s (judged.Refused e) → read-text n most s ≡ refused (refusal-of e)
+  judged-refused : (most : ℕ) (e : Refusal) → Judges n s (judged.Refused e)
+      → read-text n most s ≡ refused (refusal-of e)
   unfolding read-text
   judged-refused most e (is-refused is) = rw is
 
@@ -151,7 +157,8 @@ module _ (n : Notation) (most : ℕ) (text out room : List ℕ) where
   unfolding parse-of parsed-told
   cap-zero h = rw (lt-leb 1 most h)
 
-  pub cap-too-great : most-nodes < most → (parsed-told (Refused OutsideBounds), out, room) ≡ parse-of n most text out room
+  pub cap-too-great : most-nodes < most
+      → (parsed-told (Refused OutsideBounds), out, room) ≡ parse-of n most text out room
   unfolding parse-of parsed-told
   cap-too-great h = rw (le-leb 1 most (omega arith), lt-leb most most-nodes h)
 
@@ -184,7 +191,8 @@ module _ (n : Notation) (most : ℕ) (text out room : List ℕ) where
             → cleared most (store′ ++ drop (room-per-node * most) room) ≡ cleared most room
         cleared-again store′ long =
             let zeros : List ℕ = replicate (room-per-node * most) 0 in
-            let same : length store′ ≡ length zeros = long ∙ sym (length-replicate {0} {A = ℕ} (room-per-node * most) 0) in
+            let same : length store′ ≡ length zeros = long ∙ sym
+            (length-replicate {0} {A = ℕ} (room-per-node * most) 0) in
             ap (λ rest. zeros ++ rest)
             (drop-at store′ (drop (room-per-node * most) room) (length zeros) same
             ∙ ap (λ k. drop k room) (sym (length-replicate {0} {A = ℕ} (room-per-node * most) 0)))

@@ -1,16 +1,16 @@
 -- What building gives, return by return, and what its calls ask.
 use Prim.Native.Nat.{ℕ, _+_, _*_, _≤_, _<_, max}
-use mathlib.Core.Path.{_≡_, refl}
+use mathlib.Core.Path.{_≡_}
 use mathlib.Core.List.{List}
-use mathlib.Core.Option.{none, some}
+use mathlib.Core.Option.{some}
 use native.Mathlib.Omega.{arith}
 use lib.ListN.{length}
-use Rattle.calculus.specs.Term.{Term, var, lam, app, nodes, height}
+use Rattle.calculus.specs.Term.{Term, var, lam, app}
 use Rattle.calculus.specs.Bounds.{most-nodes, most-height, most-text}
 use Rattle.nodes.specs.Words.{nodes-in, height-in}
 use Rattle.nodes.specs.Store.{Holds, Same, word}
 use Rattle.nodes.proofs.Keeping.{same-refl, same-then, says}
-use Rattle.parser.specs.States.{State, reading, void, beside, under}
+use Rattle.parser.specs.States.{State, reading, beside, under}
 use Rattle.parser.specs.Building.{Means, nothing, term, empty, Roomy, Enclosable, Joinable, Applicable, Adds}
 use Rattle.parser.specs.Building.{Makes, Encloses, Applies, Joins, Extends, JoinsUnder}
 use Rattle.parser.specs.declared.building.Found.{Found}
@@ -69,10 +69,12 @@ module _ {xs : List ℕ} {most used : ℕ} where
       → Means xs most base used part.Empty (under st)
   encloses-empty (empty g) = empty g
 
-  pub no-body : {body : Part} → body ≡ part.Nothing → Encloses xs most (record { part = body; used = used }) xs (nothing-there used)
+  pub no-body : {body : Part} → body ≡ part.Nothing
+      → Encloses xs most (record { part = body; used = used }) xs (nothing-there used)
   no-body is = record { adds = adds-none xs used; means = λ base st m. encloses-nothing (rw is at m) }
 
-  pub empty-body : {body : Part} → body ≡ part.Empty → Encloses xs most (record { part = body; used = used }) xs (nothing-there used)
+  pub empty-body : {body : Part} → body ≡ part.Empty
+      → Encloses xs most (record { part = body; used = used }) xs (nothing-there used)
   empty-body is = record { adds = adds-none xs used; means = λ base st m. encloses-empty (rw is at m) }
 
   joins-nothing : {base mid : ℕ} {inner : State} (st : State) → base ≤ mid → Means xs most mid used part.Nothing inner
@@ -234,7 +236,8 @@ still-roomy roomy few adds = record {
 
 module _ {xs ys : List ℕ} {most : ℕ} {read : Built} where
   pub after-variable : Roomy xs most (read .used) → read .used ≤ 2 * most-text → Enclosable xs most read
-      → {index : ℕ} {v : Built} → Makes xs most (read .used) index ys v → Roomy ys most (v .used) × Joinable ys most read v
+      → {index : ℕ} {v : Built} → Makes xs most (read .used) index ys v
+      → Roomy ys most (v .used) × Joinable ys most read v
   after-variable roomy few there makes = (
     still-roomy roomy few (makes .adds),
     record {

@@ -1,6 +1,6 @@
 -- Reading on, word by word: what each word does to what is open, to what was read, and to the sequences that wait.
 use Prim.Native.Nat.{ℕ, suc, _≤_, _<_}
-use mathlib.Core.Path.{_≡_, refl, sym, _∙_}
+use mathlib.Core.Path.{_≡_, refl, _∙_}
 use mathlib.Core.Bool.{Bool, true, false}
 use mathlib.Core.List.{List, [], _∷_}
 use mathlib.Core.Option.{Option, none, some}
@@ -10,7 +10,7 @@ use borrow.Author.Tests.{le-leb, lt-leb}
 use Rattle.calculus.specs.Term.{Term, var}
 use Rattle.calculus.specs.Bounds.{most-open}
 use Rattle.calculus.specs.Refusal.{Refusal, Answer, given, refused, _then_, undefined-free-variable, too-high}
-use Rattle.calculus.specs.Words.{Name, Word, binder, opening, closing, number, name}
+use Rattle.calculus.specs.Words.{Name, Word, binder, opening, number, name}
 use Rattle.calculus.specs.Walk as walk
 use Rattle.calculus.specs.Walk.{Token, Open, group, bound, resolved, and-then, on-closing}
 use Rattle.calculus.specs.Grammar.{Part, Waits, for-group, for-body, parsed}
@@ -114,7 +114,8 @@ module _ (o : Open) (os : List Open) (ws : List Word) (st : State) (ps : List Wa
 
 -- THE END OF A GROUP
 right-on : (st inner : State) (ps : List Waits) (ts : List Token)
-    → parsed-on (walk.right ∷ ts) (unless-void (failed st) inner) (waiting group st ps) ≡ parsed-on ts (beside st inner) ps
+    → parsed-on (walk.right ∷ ts) (unless-void (failed st) inner) (waiting group st ps) ≡ parsed-on ts
+    (beside st inner) ps
 unfolding parsed waits-for
 right-on (reading p) (reading none) ps ts = refl
 right-on (reading p) (reading (some t)) ps ts = refl
@@ -135,7 +136,8 @@ end-on void void ps = refl
 
 group-ends : (closed : Bool) (os : List Open) (ws : List Word) (st inner : State) (ps : List Waits)
     → (closed ≡ false → ws ≡ [])
-    → go (group ∷ os) (ended closed ws) (unless-void (failed st) inner) (waiting group st ps) ≡ go os ws (beside st inner) ps
+    → go (group ∷ os) (ended closed ws) (unless-void (failed st) inner) (waiting group st ps) ≡ go os ws
+    (beside st inner) ps
 unfolding go walk.walk
 group-ends true os ws st inner ps last =
     one-token walk.right (walk.walk most-open os ws)
@@ -159,7 +161,8 @@ body-on x void (reading (some t)) ps e = refl
 body-on x void void ps e = refl
 
 -- a `)` closes what it would without the binder
-closing-on : (x : Name) (st inner : State) (ps : List Waits) (to : Option (List Open)) (go : List Open → Answer (List Token))
+closing-on : (x : Name) (st inner : State) (ps : List Waits) (to : Option (List Open)) (go : List Open
+    → Answer (List Token))
     → (on-closing to go then (λ ts. parsed-on ts (unless-void (failed st) inner) (waiting (bound x) st ps)))
     ≡ (on-closing to go then (λ ts. parsed-on ts (beside st (under inner)) ps))
 closing-on x st inner ps none go = body-on x st inner ps at-the-end

@@ -1,4 +1,4 @@
--- Laws that the proofs use.
+-- What the proofs of several functions use, and that the statement of `parse` allows one outcome.
 mod Going
 mod Openings
 mod Meaning
@@ -8,3 +8,4 @@ mod Turns
 mod Nesting
 mod Saving
 mod Answering
+pub mod Unique

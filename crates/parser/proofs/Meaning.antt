@@ -1,18 +1,16 @@
 -- What parts stand for, as nodes are added: parts stay what they are, and items are joined to them.
-use Prim.Native.Nat.{ℕ, suc, _+_, _*_, _≤_, _<_, max}
+use Prim.Native.Nat.{ℕ, _+_, _≤_, _<_, max}
 use mathlib.Core.Path.{_≡_, refl}
 use mathlib.Core.List.{List}
-use mathlib.Core.Option.{none, some}
+use mathlib.Core.Option.{some}
 use native.Mathlib.Omega.{arith}
-use lib.ListN.{length}
 use Rattle.calculus.specs.Term.{Term, var, lam, app, nodes, height}
-use Rattle.calculus.specs.Bounds.{most-nodes, most-height}
-use Rattle.calculus.proofs.Measures.{nodes-positive, height-positive}
-use Rattle.nodes.specs.Words.{nodes-in, height-in}
-use Rattle.nodes.specs.Store.{Holds, Same, Says, word}
-use Rattle.nodes.proofs.Keeping.{holds-kept, says}
-use Rattle.parser.specs.States.{State, reading, void, beside, under}
-use Rattle.parser.specs.Building.{Means, nothing, term, empty, Roomy}
+use Rattle.calculus.specs.Bounds.{most-height}
+use Rattle.calculus.proofs.Measures.{nodes-positive}
+use Rattle.nodes.specs.Store.{Holds, Same}
+use Rattle.nodes.proofs.Keeping.{holds-kept}
+use Rattle.parser.specs.States.{State, reading, beside, under}
+use Rattle.parser.specs.Building.{Means, nothing, term, empty}
 use Rattle.parser.specs.declared.building.Found.{Found}
 use Rattle.parser.specs.declared.building.Part.{Part}
 use Rattle.parser.specs.declared.building.Part.the-variants as part
@@ -69,4 +67,5 @@ module _ {xs ys : List ℕ} {cap used tall : ℕ} where
   unfolding nodes height
   means-application e make (term {t} h n below built) (term {t = u} h′ n′ below′ built′) =
       term {t = app t u} {found = record { height = tall; node = used }} (omega arith) (omega arith) (omega arith)
-      (λ few low. make (omega arith) (omega arith) t u (built (omega arith) (omega arith)) (built′ (omega arith) (omega arith)))
+      (λ few low. make (omega arith) (omega arith) t u (built (omega arith) (omega arith))
+      (built′ (omega arith) (omega arith)))

@@ -1,9 +1,9 @@
 -- The token at a place: how a name is looked up, and what the code's word says of the words ahead.
-use Prim.Native.Nat.{ℕ, zero, suc, _+_, _*_, _-_, _≤_, _<_}
+use Prim.Native.Nat.{ℕ, zero, suc, _+_, _-_, _≤_, _<_}
 use mathlib.Core.Path.{_≡_, refl, sym, ap, _∙_}
 use mathlib.Core.Bool.{true, false}
 use mathlib.Core.List.{List, [], _∷_}
-use mathlib.Core.Option.{none, some}
+use mathlib.Core.Option.{some}
 use native.Mathlib.Omega.{arith}
 use lib.ListN.{length, getD}
 use Rattle.calculus.specs.Bounds.{most-text}
@@ -12,14 +12,13 @@ use Rattle.calculus.specs.Reading as notation
 use Rattle.calculus.specs.Reading.{Notation, next}
 use Rattle.calculus.specs.Words.{Word, ended, word, invalid, opening, closing, binder, number, name}
 use Rattle.calculus.specs.Characters.{same-text}
-use Rattle.calculus.specs.Walk.{Open, group, bound, resolved}
+use Rattle.calculus.specs.Walk.{Open, resolved}
 use Rattle.words.specs.Places.{Clean, Placed, Inside, remains, name-of}
 use Rattle.words.specs.declared.Cursor.{Cursor}
 use Rattle.words.specs.declared.Name.{Name}
 use Rattle.words.proofs.Remaining.{remains-end}
 use Rattle.words.proofs.Ahead.{words-at, ahead-word, ahead-end, ahead-invalid}
-use Rattle.parser.specs.Opens.{packed, place-of, open-of, opens, found}
-use Rattle.parser.specs.States.{go}
+use Rattle.parser.specs.Opens.{packed, place-of, opens, found}
 use Rattle.parser.specs.Tokens.{words-on, list-of, word-of, Valid, Step}
 use Rattle.parser.specs.Tokens.{MetIndex, MetOpening, MetClosing, MetEnd, MetUndefined}
 use Rattle.parser.proofs.Going.{goes-number, goes-name, goes-undefined}
@@ -100,7 +99,10 @@ module _ {n : Notation} {s : List ℕ} {at : ℕ} (valid : Valid n s at) (after 
   valid-after : Valid n s after
   unfolding words-on
   valid-after =
-      record { valid = after-word (words-at n s at) (words-at n s after) (ahead-word n s at after w e) (valid .valid) .0 }
+      record {
+        valid = after-word (words-at n s at) (words-at n s after) (ahead-word n s at after w e)
+            (valid .valid) .0;
+      }
 
   words-after : words-on n s at ≡ w ∷ words-on n s after
   unfolding words-on
@@ -112,7 +114,8 @@ pub never-invalid : {n : Notation} {s : List ℕ} {at : ℕ} {after : Cursor} �
 never-invalid {n} {s} {at} {after} valid clean placed e =
     let never : _≡_ {A = ℕ} 0 1 = cc (sym (ahead-invalid n s at after clean placed e) ∙ valid .valid) in omega arith
 
-step-to : {n : Notation} {s : List ℕ} {here after : Cursor} → Valid n s (here .at) → Placed s after → here .at ≤ after .at
+step-to : {n : Notation} {s : List ℕ} {here after : Cursor} → Valid n s (here .at) → Placed s after
+    → here .at ≤ after .at
     → (w : Word) → next n (remains s (here .at)) ≡ word w (remains s (after .at)) → Step n s here after
 step-to {after = after} valid placed forward w e =
     record { placed = placed; valid = valid-after valid (after .at) w e; forward = forward }
@@ -155,8 +158,10 @@ module _ {n : Notation} {s : List ℕ} {os : List Open} {here after : Cursor} (v
     ahead = words-after valid (after .at) opening e;
   }
 
-  pub meets-binder : (x : Name) → here .at + 1 ≤ after .at → Clean s → (0 < x .from) × Inside s x → {w : ℕ} → w ≡ packed x
-      → next n (remains s (here .at)) ≡ word (binder (name-of s x)) (remains s (after .at)) → MetOpening n s os here after w
+  pub meets-binder : (x : Name) → here .at + 1 ≤ after .at → Clean s → (0 < x .from) × Inside s x → {w : ℕ}
+      → w ≡ packed x
+      → next n (remains s (here .at)) ≡ word (binder (name-of s x)) (remains s (after .at))
+      → MetOpening n s os here after w
   unfolding word-of
   meets-binder x moved clean (some-before, inside) is e =
       let low : x .from ≤ most-text = omega (arith, inside .forward, inside .within, clean .short) in
@@ -181,6 +186,7 @@ module _ {n : Notation} {s : List ℕ} {os : List Open} {here after : Cursor} (v
       }
 
 -- a binder's place fits one number
-pub place-fits : {s : List ℕ} {x : Name} → Clean s → (0 < x .from) × Inside s x → (x .from ≤ most-text) × (x .to ≤ most-text)
+pub place-fits : {s : List ℕ} {x : Name} → Clean s → (0 < x .from) × Inside s x
+    → (x .from ≤ most-text) × (x .to ≤ most-text)
 place-fits clean (some-before, inside) =
     (omega (arith, inside .forward, inside .within, clean .short), omega (arith, inside .within, clean .short))

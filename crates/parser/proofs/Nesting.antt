@@ -1,9 +1,8 @@
 -- A sequence inside a sequence: how a group and the body of an abstraction are read, and what stops them.
 use Prim.Native.Nat.{ℕ, _+_, _*_, _≤_, _<_}
-use mathlib.Core.Path.{_≡_, refl, sym, ap, _∙_}
-use mathlib.Core.Bool.{Bool, true, false}
-use mathlib.Core.List.{List, [], _∷_}
-use mathlib.Core.Option.{none}
+use mathlib.Core.Path.{_≡_, ap, _∙_}
+use mathlib.Core.Bool.{Bool}
+use mathlib.Core.List.{List, _∷_}
 use native.Mathlib.Omega.{arith}
 use native.Mathlib.Numerals.{add-one}
 use lib.ListN.{length, set}
@@ -11,21 +10,19 @@ use borrow.Author.Tests.{eq-eqb, ne-eqb}
 use Rattle.calculus.specs.Bounds.{most-open, most-text}
 use Rattle.calculus.specs.Refusal.{refused}
 use Rattle.calculus.specs.Reading.{Notation}
-use Rattle.calculus.specs.Words.{binder}
-use Rattle.calculus.specs.Walk.{Open, group, bound}
+use Rattle.calculus.specs.Walk.{Open}
 use Rattle.calculus.specs.Grammar.{Waits}
 use Rattle.term.specs.Answers.{refusal-of}
 use Rattle.term.specs.declared.Refusal.{Refusal}
 use Rattle.term.specs.declared.Refusal.the-variants.{TooHigh}
 use Rattle.words.specs.Places.{Inside, name-of}
 use Rattle.words.specs.declared.Cursor.{Cursor}
-use Rattle.nodes.specs.Store.{Same}
 use Rattle.nodes.proofs.Keeping.{same-refl, same-then}
-use Rattle.parser.specs.Opens.{place-of, open-of, opens, Kept}
-use Rattle.parser.specs.States.{State, reading, beside, under, go, unless-void, ended}
+use Rattle.parser.specs.Opens.{place-of, open-of, opens}
+use Rattle.parser.specs.States.{State, beside, under, go, unless-void, ended}
 use Rattle.parser.specs.Tokens.{words-on, word-of, MetOpening}
-use Rattle.parser.specs.Building.{Means, Roomy, Joinable, Joins, JoinsUnder}
-use Rattle.parser.specs.Sequences.{Ready, Reaches, Ends, Comes, to-its-end, to-a-refusal}
+use Rattle.parser.specs.Building.{Roomy, Joinable, Joins, JoinsUnder}
+use Rattle.parser.specs.Sequences.{Ready, Ends, Comes, to-its-end, to-a-refusal}
 use Rattle.parser.specs.Sequences.{Reads, Enters, no-more, one-more, Groups}
 use Rattle.parser.specs.declared.building.Built.{Built}
 use Rattle.parser.specs.declared.sequences.Went.{Went}
@@ -186,7 +183,8 @@ module _ {n : Notation} {s names : List ℕ} {count : ℕ} {store : List ℕ} {m
               so-far .goes failed ps
               ∙ rw (rw (ne-eqb w 0 binds) at (met .ahead))
               (goes-body (opens s names count) (words-on n s (after .at)) (words-on n s (last .at)) closed
-              (unless-void failed (so-far .state)) (inside .state) ps few-there x (rw (ne-eqb w 0 binds) at (inside .goes)))
+              (unless-void failed (so-far .state)) (inside .state) ps few-there x
+              (rw (ne-eqb w 0 binds) at (inside .goes)))
               ∙ ap (λ (st : State). go (opens s names count) (ended closed (words-on n s (last .at))) st ps)
               (beside-void failed (so-far .state) (under (inside .state)));
         })

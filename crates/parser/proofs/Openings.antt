@@ -1,6 +1,6 @@
 -- The array of what is open: what stays in it, what is added, and how a name is looked up from its end.
-use Prim.Native.Nat.{ℕ, zero, suc, _+_, _*_, _/_, _%_, _≤_, _<_}
-use mathlib.Core.Path.{_≡_, refl, ap, ap₂, sym, _∙_}
+use Prim.Native.Nat.{ℕ, zero, suc, _+_, _≤_, _<_}
+use mathlib.Core.Path.{_≡_, refl, ap, ap₂, _∙_}
 use mathlib.Core.Bool.{true, false}
 use mathlib.Core.List.{List, _∷_}
 use mathlib.Core.Option.{some}
@@ -8,10 +8,10 @@ use native.Mathlib.Omega.{arith}
 use native.Mathlib.Decide.{ℕ-discrete}
 use lib.ListN.{length, set, getD, length-set}
 use lib.Seq.{getD-set-same, getD-set-other}
-use borrow.Author.Tests.{eq-eqb, ne-eqb}
+use borrow.Author.Tests.{ne-eqb}
 use Rattle.calculus.specs.Bounds.{most-open, most-text}
 use Rattle.calculus.specs.Characters.{same-text}
-use Rattle.calculus.specs.Walk.{Open, bound, resolved}
+use Rattle.calculus.specs.Walk.{bound, resolved}
 use Rattle.words.specs.Places.{Inside, name-of}
 use Rattle.words.specs.declared.Name.{Name}
 use Rattle.parser.specs.Opens.{packed, place-of, open-of, opens, Opened, Kept}
@@ -58,7 +58,8 @@ module _ (s xs : List ℕ) (count w : ℕ) (room : count < length xs) where
   opens-more =
       ap₂ _∷_ (ap (open-of s) (getD-set-same xs count w 0 room)) (opens-kept s count (kept-set xs count w))
 
-  pub opened-more : Opened s xs count → count < most-open → Inside s (place-of w) → Opened s (set xs count w) (count + 1)
+  pub opened-more : Opened s xs count → count < most-open → Inside s (place-of w)
+      → Opened s (set xs count w) (count + 1)
   opened-more before few inside = record {
     as-long = length-set xs count w ∙ before .as-long;
     few = omega arith;
@@ -73,7 +74,8 @@ pub place-packed : (x : Name) → x .from ≤ most-text → place-of (packed x) 
 place-packed x h =
     ap₂ (λ (from to : ℕ). record { from = from; to = to }) (omega arith) (omega arith)
 
-pub open-packed : (s : List ℕ) (x : Name) → 0 < x .from → x .from ≤ most-text → open-of s (packed x) ≡ bound (name-of s x)
+pub open-packed : (s : List ℕ) (x : Name) → 0 < x .from → x .from ≤ most-text
+    → open-of s (packed x) ≡ bound (name-of s x)
 open-packed s x some-before h =
     rw (ne-eqb (packed x) 0 (λ e. omega arith)) (ap (λ (y : Name). bound (name-of s y)) (place-packed x h))
 

@@ -1,22 +1,20 @@
 -- What is left at the end of the text: 8, 7 and 9 of what was read, and its bytes.
-use Prim.Native.Nat.{ℕ, _+_, _*_, _≤_, _<_}
+use Prim.Native.Nat.{ℕ, _≤_, _<_}
 use mathlib.Core.Path.{_≡_, refl, ap₂, _∙_}
-use mathlib.Core.List.{List, []}
-use mathlib.Core.Option.{none, some}
+use mathlib.Core.List.{List}
 use native.Mathlib.Omega.{arith}
 use native.Mathlib.Nat.{zero-add}
 use lib.ListN.{length}
 use borrow.Author.Tests.{le-leb, lt-leb}
-use Rattle.calculus.specs.Term.{Term, nodes, height}
-use Rattle.calculus.specs.Bounds.{most-height, output-per-node}
+use Rattle.calculus.specs.Term.{nodes, height}
+use Rattle.calculus.specs.Bounds.{most-height}
 use Rattle.calculus.specs.Bytes.{encode}
 use Rattle.calculus.specs.Refusal.{given}
 use Rattle.calculus.specs.Judging.{within}
 use Rattle.calculus.specs.Grammar.{parsed}
-use Rattle.calculus.proofs.Putting.{Puts, laid}
-use Rattle.calculus.proofs.Sizes.{size, length-encode, nine-per-node}
+use Rattle.calculus.proofs.Putting.{laid}
+use Rattle.calculus.proofs.Sizes.{length-encode, nine-per-node}
 use Rattle.term.specs.declared.Refusal.the-variants.{TooHigh, TooManyNodes, EmptyExpression}
-use Rattle.nodes.specs.Store.{Holds}
 use Rattle.nodes.specs.Coded as nodes
 use Rattle.parser.specs.Answers.{parsed-told}
 use Rattle.parser.specs.States.{State}
@@ -29,15 +27,18 @@ use Rattle.parser.specs.declared.Parsed.the-variants.{Length, Refused}
 
 -- by what it stands for
 module _ {store : List ℕ} {most used : ℕ} {out : List ℕ} where
-  nothing-read : {st : State} → Means store most 0 used part.Nothing st → Stores (at-the-end most st) out (Refused EmptyExpression) out
+  nothing-read : {st : State} → Means store most 0 used part.Nothing st
+      → Stores (at-the-end most st) out (Refused EmptyExpression) out
   unfolding parsed parsed-told
   nothing-read (nothing e) = refl
 
-  empty-read : {st : State} → Means store most 0 used part.Empty st → Stores (at-the-end most st) out (Refused EmptyExpression) out
+  empty-read : {st : State} → Means store most 0 used part.Empty st
+      → Stores (at-the-end most st) out (Refused EmptyExpression) out
   unfolding parsed parsed-told
   empty-read (empty g) = refl
 
-  too-high-read : {found : Found} {st : State} → most-height < found .height → Means store most 0 used (part.Term found) st
+  too-high-read : {found : Found} {st : State} → most-height < found .height
+      → Means store most 0 used (part.Term found) st
       → Stores (at-the-end most st) out (Refused TooHigh) out
   unfolding parsed parsed-told within
   too-high-read high (term {t} h n below built) = rw (lt-leb (height t) most-height (omega arith))
@@ -65,7 +66,8 @@ module _ {store : List ℕ} {most used : ℕ} {out : List ℕ} where
           let put = saved .saved t (built few (omega arith)) in
           let fits : length (encode t) ≤ length out = omega (arith, length-encode t, nine-per-node t, lent .output) in
           rw (le-leb (height t) most-height (omega arith), le-leb (nodes t) most (omega arith))
-          (ap₂ (λ a b. (given a, b)) (put .reached ∙ zero-add (length (encode t))) (put .stored ∙ laid (encode t) out fits))
+          (ap₂ (λ a b. (given a, b)) (put .reached ∙ zero-add (length (encode t)))
+          (put .stored ∙ laid (encode t) out fits))
 
 -- by its part
 module _ {store : List ℕ} {most : ℕ} {read : Built} {out : List ℕ} where

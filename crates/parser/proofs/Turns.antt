@@ -26,7 +26,7 @@ use Rattle.parser.specs.declared.building.Part.the-variants as part
 use Rattle.parser.specs.declared.sequences.Went.{Went}
 use Rattle.parser.specs.declared.sequences.Went.the-variants.{On, Stopped}
 use Rattle.parser.proofs.Openings.{kept-refl, kept-then, opens-kept, opened-kept}
-use Rattle.parser.proofs.Meaning.{means-grows, means-kept}
+use Rattle.parser.proofs.Meaning.{means-grows}
 
 -- something empty before stays so
 pub beside-void : (failed : Bool) (st inner : State)
@@ -69,7 +69,8 @@ module _ {n : Notation} {s names : List ℕ} {count : ℕ} {store : List ℕ} {m
 
   -- an item was read
   pub one-item : {names″ store″ : List ℕ} {after : Cursor} (more : Built) (inner : State) → Step n s here after
-      → more .used + 2 * here .at ≤ read .used + 2 * after .at → Kept names′ names″ count → Same store′ store″ (read .used)
+      → more .used + 2 * here .at ≤ read .used + 2 * after .at → Kept names′ names″ count
+      → Same store′ store″ (read .used)
       → Means store″ most base (more .used) (more .part) (beside (so-far .state) inner)
       → ((st : State) (ps : List Waits) → go (opens s names count) (words-on n s (here .at)) st ps
       ≡ go (opens s names count) (words-on n s (after .at)) (beside st inner) ps)
@@ -152,7 +153,14 @@ module _ {n : Notation} {s names : List ℕ} {count : ℕ} {store : List ℕ} {m
   -- WHAT OPENS asks what its sequence asked
   module _ (ready : Ready n s names count store most from base) where
     pub few-used : read .used ≤ 2 * most-text
-    few-used = omega (arith, so-far .reaches .spent, ready .few, so-far .reaches .step .placed .inside, ready .clean .short)
+    few-used = omega (
+      arith,
+      so-far .reaches .spent,
+      ready .few,
+      so-far .reaches .step .placed .inside,
+      ready .clean
+          .short,
+    )
 
     pub roomy-here : Roomy store′ most (read .used)
     roomy-here = record {

@@ -1,5 +1,4 @@
 -- Reading on from a word: the walk and the grammar together, as the recursion over the text meets them.
-use Prim.Native.Nat.{ℕ}
 use mathlib.Core.Bool.{Bool, true, false}
 use mathlib.Core.List.{List, [], _∷_}
 use mathlib.Core.Option.{none, some}

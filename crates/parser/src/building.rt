@@ -123,7 +123,7 @@ pub(crate) fn joined(store: &mut [u64], cap: usize, read: Built, item: Built) ->
 {
     let used = item.used;
     let part = item.part;
-    let before = read.part;
+    let head = read.part;
     match part {
         Part::Nothing => Built {
             part: Part::Empty,
@@ -133,7 +133,7 @@ pub(crate) fn joined(store: &mut [u64], cap: usize, read: Built, item: Built) ->
             part: Part::Empty,
             used,
         },
-        Part::Term(right) => match before {
+        Part::Term(right) => match head {
             Part::Nothing => Built { part, used },
             Part::Empty => Built {
                 part: Part::Empty,
@@ -155,7 +155,8 @@ pub(crate) fn with_variable(store: &mut [u64], cap: usize, read: Built, index: u
 
 // What was read, with an abstraction as its next item.
 pub(crate) fn with_abstraction(store: &mut [u64], cap: usize, read: Built, body: Built) -> Built
-    requires { ⌜ Roomy (now store) cap (body .used) × Joinable (now store) cap read body × (body .used ≤ 2 * most-text) ⌝ }
+    requires { ⌜ Roomy (now store) cap (body .used) × Joinable (now store) cap read body
+        × (body .used ≤ 2 * most-text) ⌝ }
     ensures { λ r. ⌜ JoinsUnder (now (store .entry)) cap read body (now (store .exit)) r ⌝ }
 {
     let item = abstraction(store, cap, body);

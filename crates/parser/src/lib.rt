@@ -27,7 +27,7 @@ ghost use Rattle.words.specs.Places.{Clean};
 ghost use Rattle.parser.specs.Answers.{parsed-told};
 ghost use Rattle.parser.specs.States.{reading, go};
 ghost use Rattle.parser.specs.Tokens.{words-on, Valid};
-ghost use Rattle.parser.specs.Parsing.{Lent, Storable, Saves, Stores, Works};
+ghost use Rattle.parser.specs.Parsing.{Lent, Storable, Saves, Works};
 
 // The bytes that the term takes in the output, or why it has none.
 pub enum Parsed {
@@ -59,7 +59,8 @@ fn save(store: &[u64], cap: usize, read: Built, out: &mut [u8]) -> Parsed
 // The walk's 6 or 7, then 8, 7 and 9, of a text whose words are valid.
 fn build(notation: Notation, cap: usize, text: &[u8], out: &mut [u8], store: &mut [u64]) -> Parsed
     requires { ⌜ Lent cap (now out) (now store) × Clean (now text) × Valid (notation-of notation) (now text) 0 ⌝ }
-    ensures { λ r. ⌜ Works (go [] (words-on (notation-of notation) (now (text .entry)) 0) (reading none) [] then within cap) (now (out .entry)) (now (store .entry)) r (now (out .exit)) (now (store .exit)) ⌝ }
+    ensures { λ r. ⌜ Works (go [] (words-on (notation-of notation) (now (text .entry)) 0) (reading none) []
+        then within cap) (now (out .entry)) (now (store .entry)) r (now (out .exit)) (now (store .exit)) ⌝ }
 {
     let mut names = [0u64; 512];
     let start = Cursor { at: 0, chars: 0 };
@@ -76,7 +77,8 @@ fn build(notation: Notation, cap: usize, text: &[u8], out: &mut [u8], store: &mu
 // All that comes after 1 and 2.
 fn read(notation: Notation, cap: usize, text: &[u8], out: &mut [u8], store: &mut [u64]) -> Parsed
     requires { ⌜ Lent cap (now out) (now store) ⌝ }
-    ensures { λ r. ⌜ Works (read-text (notation-of notation) cap (now (text .entry))) (now (out .entry)) (now (store .entry)) r (now (out .exit)) (now (store .exit)) ⌝ }
+    ensures { λ r. ⌜ Works (read-text (notation-of notation) cap (now (text .entry)))
+        (now (out .entry)) (now (store .entry)) r (now (out .exit)) (now (store .exit)) ⌝ }
 {
     match words::judge(notation, text) {
         Judged::Refused(why) => Parsed::Refused(why),
@@ -86,7 +88,8 @@ fn read(notation: Notation, cap: usize, text: &[u8], out: &mut [u8], store: &mut
 
 // 1, 2, then the work, after which the room is cleared.
 pub fn parse(notation: Notation, cap: u64, text: &[u8], out: &mut [u8], room: &mut [u64]) -> Parsed
-    ensures { λ r. ⌜ (parsed-told r, now (out .exit), now (room .exit)) ≡ parse-of (notation-of notation) cap (now (text .entry)) (now (out .entry)) (now (room .entry)) ⌝ }
+    ensures { λ r. ⌜ (parsed-told r, now (out .exit), now (room .exit))
+        ≡ parse-of (notation-of notation) cap (now (text .entry)) (now (out .entry)) (now (room .entry)) ⌝ }
 {
     if cap < 1 {
         return Parsed::Refused(Refusal::OutsideBounds);

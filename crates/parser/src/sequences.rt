@@ -47,7 +47,8 @@ pub(crate) fn sequence(
     base: usize,
 ) -> Went
     requires { ⌜ Ready (notation-of notation) (now text) (now names) count (now store) cap from base ⌝ }
-    ensures { λ r. ⌜ Reads (notation-of notation) (now (text .entry)) (now (names .entry)) count (now (store .entry)) cap from base r (now (names .exit)) (now (store .exit)) ⌝ }
+    ensures { λ r. ⌜ Reads (notation-of notation) (now (text .entry)) (now (names .entry)) count (now (store .entry)) cap
+        from base r (now (names .exit)) (now (store .exit)) ⌝ }
 {
     let mut here = from;
     let mut read = Built {
@@ -106,8 +107,10 @@ fn group(
     from: Cursor,
     base: usize,
 ) -> Went
-    requires { ⌜ Ready (notation-of notation) (now text) (now names) count (now store) cap from base × Inside (now text) (place-of opening) ⌝ }
-    ensures { λ r. ⌜ Groups (notation-of notation) (now (text .entry)) (now (names .entry)) count opening (now (store .entry)) cap from base r (now (names .exit)) (now (store .exit)) ⌝ }
+    requires { ⌜ Ready (notation-of notation) (now text) (now names) count (now store) cap from base
+        × Inside (now text) (place-of opening) ⌝ }
+    ensures { λ r. ⌜ Groups (notation-of notation) (now (text .entry)) (now (names .entry)) count opening
+        (now (store .entry)) cap from base r (now (names .exit)) (now (store .exit)) ⌝ }
 {
     if MOST_OPEN <= count {
         return Went::Stopped(Refusal::TooHigh);

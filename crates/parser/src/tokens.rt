@@ -36,7 +36,8 @@ fn unpack(w: u64) -> Name
 // The index that a name has among what is open, from the innermost binder out; 0 where none has that name.
 fn resolve(text: &[u8], names: &[u64], count: usize, name: Name) -> u64
     requires { ⌜ Clean (now text) × Inside (now text) name × Opened (now text) (now names) count ⌝ }
-    ensures { λ r. ⌜ found r ≡ resolved (name-of (now (text .entry)) name) 1 (opens (now (text .entry)) (now (names .entry)) count) ⌝ }
+    ensures { λ r. ⌜ found r ≡ resolved (name-of (now (text .entry)) name) 1
+        (opens (now (text .entry)) (now (names .entry)) count) ⌝ }
 {
     let mut left = count;
     let mut index: u64 = 1;
@@ -75,8 +76,10 @@ pub(crate) fn token_at(
     count: usize,
     here: Cursor,
 ) -> Met
-    requires { ⌜ Clean (now text) × Placed (now text) here × Valid (notation-of notation) (now text) (here .at) × Opened (now text) (now names) count ⌝ }
-    ensures { λ r. ⌜ Meets (notation-of notation) (now (text .entry)) (opens (now (text .entry)) (now (names .entry)) count) here r ⌝ }
+    requires { ⌜ Clean (now text) × Placed (now text) here × Valid (notation-of notation) (now text) (here .at)
+        × Opened (now text) (now names) count ⌝ }
+    ensures { λ r. ⌜ Meets (notation-of notation) (now (text .entry)) (opens (now (text .entry)) (now (names .entry)) count)
+        here r ⌝ }
 {
     let step = here.next(text, notation);
     let next = step.next;

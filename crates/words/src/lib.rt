@@ -98,7 +98,8 @@ impl Cursor {
     // The next word.
     pub fn next(self, text: &[u8], notation: Notation) -> Step
         requires { ⌜ Clean (now text) × Placed (now text) self ⌝ }
-        ensures { λ r. ⌜ Tells (now (text .entry)) self (next (notation-of notation) (remains (now (text .entry)) (self .at))) r
+        ensures { λ r. ⌜ Tells (now (text .entry)) self
+            (next (notation-of notation) (remains (now (text .entry)) (self .at))) r
             × (self .at + taken (r .word) ≤ r .next .at) × Last (now (text .entry)) r ⌝ }
     {
         let here = self.over(text, Run::White);

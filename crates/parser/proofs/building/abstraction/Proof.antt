@@ -1,84 +1,49 @@
-use Rattle.parser.proofs.Built.{encloses, no-body, empty-body, body-height, can-enclose}
+-- `parser::building::abstraction` meets its contract.
 use mathlib.Core.Path.{refl}
 use native.Mathlib.Omega.{arith}
-use Rattle.nodes.proofs.Keeping.{same-refl}
 use borrow.Author.Needs.{needs}
+use Rattle.parser.proofs.Built.{encloses, no-body, empty-body, body-height, can-enclose}
+use Rattle.nodes.proofs.Keeping.{same-refl}
 use Rattle.parser.proofs.building.abstraction.Statement.{statement}
 use Rattle.parser.proofs.building.abstraction.Tie as tie
-use Rattle.parser.proofs.building.abstraction.Reads as reads
-use Rattle.parser.proofs.building.abstraction.Lts as lts
-use Rattle.nodes.proofs.make_abstraction.Reads as make-abstraction-reads
 
--- src/building.rt:64:19
-enum-told : tie.Need-enum-told
-enum-told c = search needs
-
--- src/building.rt:68:19
-enum-told-2 : tie.Need-enum-told-2
-enum-told-2 c = search needs
-
--- src/building.rt:71:20
-enum-known-held : tie.Need-enum-known-held
-enum-known-held c = search needs
-
--- src/building.rt:72:26
 add-height : tie.Need-add-height
-add-height c = omega (arith, body-height _ (c .before .before .held .given .1) (c .before .before .before .before .before .pre .1), c .before .before .before .before .before .pre .0 .few)
+add-height c =
+    let at-held = c .before .before in
+    let start = at-held .before .before .before in
+    omega (arith, body-height _ (at-held .held .given .1) (start .pre .1), start .pre .0 .few)
 
--- src/building.rt:77:27
-add-t14 : tie.Need-add-t14
-add-t14 c = search needs
-
--- src/building.rt:75:17
 returns : tie.Need-returns
 returns c =
-    encloses refl (same-refl _ _) _ (c .before .before .before .held .given .1) refl (λ few. absurd (omega (arith, c .if1 .taken)))
+    let at-held = c .before .before .before in
+    encloses refl (same-refl _ _) _ (at-held .held .given .1) refl (λ few. absurd (omega (arith, c .if1 .taken)))
 
--- src/building.rt:83:27
-add-t15 : tie.Need-add-t15
-add-t15 c = search needs
-
--- src/building.rt:81:17
 returns-2 : tie.Need-returns-2
 returns-2 c =
-    encloses refl (same-refl _ _) _ (c .before .before .before .before .held .given .1) refl (λ few low. absurd (omega (arith, c .if2 .taken)))
+    let at-held = c .before .before .before .before in
+    encloses refl (same-refl _ _) _ (at-held .held .given .1) refl (λ few low. absurd (omega (arith, c .if2 .taken)))
 
--- src/building.rt:88:23
 make-abstraction-requires : tie.Need-make-abstraction-requires
-make-abstraction-requires c κs = can-enclose (c .before .before .before .before .before .before .before .before .pre .0) (c .before .before .if1 .left) _ (c .before .before .before .before .before .held .given .1) (c .before .before .before .before .before .before .before .before .pre .1) (c .before .if2 .left)
+make-abstraction-requires c κs =
+    let at-if1 = c .before .before in
+    let at-held = at-if1 .before .before .before in
+    let start = at-held .before .before .before in
+    can-enclose (start .pre .0) (at-if1 .if1 .left) _ (at-held .held .given .1) (start .pre .1) (c .before .if2 .left)
 
--- src/building.rt:56:1
 returns-3 : tie.Need-returns-3
 returns-3 c = no-body (c .enum-told .given .1)
 
--- src/building.rt:56:1
 returns-4 : tie.Need-returns-4
 returns-4 c = empty-body (c .enum-told2 .given .1)
 
--- src/building.rt:56:1
-same-length : tie.Need-same-length
-same-length c = search needs
-
--- src/building.rt:56:1
 returns-5 : tie.Need-returns-5
 returns-5 c =
-    encloses (c .before .before .make-abstraction .ensures .0) (c .before .before .make-abstraction .ensures .1) _ (c .before .before .before .before .before .before .before .before .held .given .1) refl
-    (λ few low. c .before .before .make-abstraction .ensures .2)
+    let at-make-abstraction = c .before .before in
+    let at-held = at-make-abstraction .before .before .before .before .before .before in
+    encloses (at-make-abstraction .make-abstraction .ensures .0) (at-make-abstraction .make-abstraction .ensures .1) _
+    (at-held .held .given .1) refl (λ few low. at-make-abstraction .make-abstraction .ensures .2)
 
 pub abstraction-spec : {M : Type 1} → statement M
-abstraction-spec =
-    tie.close
-    (tie.spec
-    enum-told
-    enum-told-2
-    enum-known-held
-    add-height
-    add-t14
-    returns
-    add-t15
-    returns-2
-    make-abstraction-requires
-    returns-3
-    returns-4
-    same-length
-    returns-5)
+abstraction-spec = tie.close (tie.spec
+    (λ c. search needs) (λ c. search needs) (λ c. search needs) add-height (λ c. search needs) returns
+    (λ c. search needs) returns-2 make-abstraction-requires returns-3 returns-4 (λ c. search needs) returns-5)

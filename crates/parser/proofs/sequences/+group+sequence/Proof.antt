@@ -76,98 +76,215 @@ module _ (t : ℕ) where
   group-returns c = too-many-open (c .before .before .before .before .pre .1 .0) (c .if1 .taken)
 
   group-slice-write-names : group-lts.Need-slice-write-names (group-claims t) (group-at t) group.Post
-  group-slice-write-names c = omega (arith, c .if1 .left, c .before .before .before .before .pre .1 .0 .opened .as-long)
+  group-slice-write-names c =
+      let start = c .before .before .before .before in
+      omega (arith, c .if1 .left, start .pre .1 .0 .opened .as-long)
 
   group-sequence-requires : group-lts.Need-sequence-requires (group-claims t) (group-at t) group.Post
-  group-sequence-requires c κs = (omega (arith, c .before .before .before .before .before .before .pre .0), ready-opened (c .before .before .before .before .before .before .pre .1 .0) (c .before .before .if1 .left) _ (c .before .before .before .before .before .before .pre .1 .1))
+  group-sequence-requires c κs =
+      let at-if1 = c .before .before in
+      let start = at-if1 .before .before .before .before in
+      (omega (arith, start .pre .0), ready-opened (start .pre .1 .0) (at-if1 .if1 .left) _ (start .pre .1 .1))
 
   group-same-length : group-lts.Need-same-length (group-claims t) (group-at t) group.Post
-  group-same-length c = group-enters (c .before .before .before .before .before .before .before .before .before .before .before .pre .1 .0) (c .before .before .before .before .before .before .before .if1 .left) (c .before .before .before .before .before .before .before .before .before .before .before .args .opening) (c .before .before .before .before .sequence .ensures) .kept .as-long
+  group-same-length c =
+      let at-sequence = c .before .before .before .before in
+      let at-if1 = at-sequence .before .before .before in
+      let start = at-if1 .before .before .before .before in
+      group-enters (start .pre .1 .0) (at-if1 .if1 .left) (start .args .opening)
+      (at-sequence .sequence .ensures) .kept .as-long
 
   group-same-length-2 : group-lts.Need-same-length-2 (group-claims t) (group-at t) group.Post
   group-same-length-2 c = c .before .before .before .before .sequence .ensures .same .as-long
 
   group-returns-2 : group-lts.Need-returns-2 (group-claims t) (group-at t) group.Post
-  group-returns-2 c = group-enters (c .before .before .before .before .before .before .before .before .before .before .before .pre .1 .0) (c .before .before .before .before .before .before .before .if1 .left) _ (c .before .before .before .before .sequence .ensures)
+  group-returns-2 c =
+      let at-sequence = c .before .before .before .before in
+      let at-if1 = at-sequence .before .before .before in
+      let start = at-if1 .before .before .before .before in
+      group-enters (start .pre .1 .0) (at-if1 .if1 .left) _ (at-sequence .sequence .ensures)
 
   loop-holds : lts.Need-loop-holds (claims t) (sequence-at t) sequence.Post Inv-loop μ-loop
   loop-holds c = at-first _ _ _ _ _ _ _ _ (c .before .before .before .pre .1)
 
   token-at-requires : lts.Need-token-at-requires (claims t) (sequence-at t) sequence.Post Inv-loop μ-loop
-  token-at-requires c κs = (c .before .before .before .before .before .pre .1 .clean, c .before .loop .inv .reaches .step .placed, c .before .loop .inv .reaches .step .valid, opened-here (c .before .loop .inv) (c .before .before .before .before .before .pre .1))
+  token-at-requires c κs =
+      let start = c .before .before .before .before .before in
+      let here = c .before .loop .inv .reaches .step in
+      (start .pre .1 .clean, here .placed, here .valid, opened-here (c .before .loop .inv) (start .pre .1))
 
   with-variable-requires : lts.Need-with-variable-requires (claims t) (sequence-at t) sequence.Post Inv-loop μ-loop
-  with-variable-requires c κs = (roomy-here (c .before .before .before .before .before .before .before .loop .inv) (c .before .before .before .before .before .before .before .before .before .before .before .pre .1), enclosable-here (c .before .before .before .before .before .before .before .loop .inv) (c .before .before .before .before .before .before .before .before .before .before .before .pre .1), few-used (c .before .before .before .before .before .before .before .loop .inv) (c .before .before .before .before .before .before .before .before .before .before .before .pre .1))
+  with-variable-requires c κs =
+      let at-loop = c .before .before .before .before .before .before .before in
+      let start = at-loop .before .before .before .before in
+      let so-far = at-loop .loop .inv in
+      (roomy-here so-far (start .pre .1), enclosable-here so-far (start .pre .1), few-used so-far (start .pre .1))
 
   loop-less : lts.Need-loop-less (claims t) (sequence-at t) sequence.Post Inv-loop μ-loop
-  loop-less c = omega (arith, (rw (c .before .before .before .before .before .token .given .1) at (c .before .before .before .before .before .before .before .before .token-at .ensures)) .moved, (rw (c .before .before .before .before .before .token .given .1) at (c .before .before .before .before .before .before .before .before .token-at .ensures)) .step .placed .inside)
+  loop-less c =
+      let at-token = c .before .before .before .before .before in
+      let at-token-at = at-token .before .before .before in
+      let met = rw (at-token .token .given .1) at (at-token-at .token-at .ensures) in
+      omega (arith, met .moved, met .step .placed .inside)
 
   loop-again : lts.Need-loop-again (claims t) (sequence-at t) sequence.Post Inv-loop μ-loop
-  loop-again c = variable-read (c .before .before .before .before .before .before .before .before .before .before .loop .inv) (rw (c .before .before .before .before .before .token .given .1) at (c .before .before .before .before .before .before .before .before .token-at .ensures)) (c .before .before .with-variable .ensures)
+  loop-again c =
+      let at-with-variable = c .before .before in
+      let at-token = at-with-variable .before .before .before in
+      let at-token-at = at-token .before .before .before in
+      let at-loop = at-token-at .before .before in
+      let met = rw (at-token .token .given .1) at (at-token-at .token-at .ensures) in
+      variable-read (at-loop .loop .inv) met (at-with-variable .with-variable .ensures)
 
   group-requires : lts.Need-group-requires (claims t) (sequence-at t) sequence.Post Inv-loop μ-loop
-  group-requires c κs = (omega (arith, c .before .before .before .before .before .before .before .before .before .before .before .before .pre .0, (rw (c .before .before .before .token2 .given .1) at (c .before .before .before .before .before .before .token-at .ensures)) .moved, c .before .before .before .before .before .before .before .before .loop .inv .reaches .step .forward, (rw (c .before .before .before .token2 .given .1) at (c .before .before .before .before .before .before .token-at .ensures)) .step .placed .inside), (ready-inside (c .before .before .before .before .before .before .before .before .loop .inv) (c .before .before .before .before .before .before .before .before .before .before .before .before .pre .1) ((rw (c .before .before .before .token2 .given .1) at (c .before .before .before .before .before .before .token-at .ensures)) .step), (rw (c .before .before .before .token2 .given .1) at (c .before .before .before .before .before .before .token-at .ensures)) .inside))
+  group-requires c κs =
+      let at-token2 = c .before .before .before in
+      let at-token-at = at-token2 .before .before .before in
+      let at-loop = at-token-at .before .before in
+      let start = at-loop .before .before .before .before in
+      let met = rw (at-token2 .token2 .given .1) at (at-token-at .token-at .ensures) in
+      let here = at-loop .loop .inv .reaches .step in (
+        omega (arith, start .pre .0, met .moved, here .forward, met .step .placed .inside),
+        (ready-inside (at-loop .loop .inv) (start .pre .1) (met .step), met .inside),
+      )
 
   same-length : lts.Need-same-length (claims t) (sequence-at t) sequence.Post Inv-loop μ-loop
-  same-length c = c .before .before .before .before .before .before .before .group .ensures .kept .as-long ∙ c .before .before .before .before .before .before .before .before .before .before .before .before .before .before .before .before .loop .inv .kept .as-long
+  same-length c =
+      let at-group = c .before .before .before .before .before .before .before in
+      let at-loop = at-group .before .before .before .before .before .before .before .before .before in
+      at-group .group .ensures .kept .as-long ∙ at-loop .loop .inv .kept .as-long
 
   same-length-2 : lts.Need-same-length-2 (claims t) (sequence-at t) sequence.Post Inv-loop μ-loop
-  same-length-2 c = c .before .before .before .before .before .before .before .group .ensures .same .as-long ∙ c .before .before .before .before .before .before .before .before .before .before .before .before .before .before .before .before .loop .inv .same .as-long
+  same-length-2 c =
+      let at-group = c .before .before .before .before .before .before .before in
+      let at-loop = at-group .before .before .before .before .before .before .before .before .before in
+      at-group .group .ensures .same .as-long ∙ at-loop .loop .inv .same .as-long
 
   returns : lts.Need-returns (claims t) (sequence-at t) sequence.Post Inv-loop μ-loop
-  returns c = nested-stops (c .before .before .before .before .before .before .before .before .before .before .before .before .before .before .before .before .loop .inv) (rw (c .before .before .before .before .before .before .before .before .before .before .before .token2 .given .1) at (c .before .before .before .before .before .before .before .before .before .before .before .before .before .before .token-at .ensures)) (c .before .why .given .1) (c .before .before .before .before .before .before .before .group .ensures)
+  returns c =
+      let at-group = c .before .before .before .before .before .before .before in
+      let at-token2 = at-group .before .before .before .before in
+      let at-token-at = at-token2 .before .before .before in
+      let at-loop = at-token-at .before .before in
+      let met = rw (at-token2 .token2 .given .1) at (at-token-at .token-at .ensures) in
+      nested-stops (at-loop .loop .inv) met (c .before .why .given .1) (at-group .group .ensures)
 
-  with-abstraction-requires : lts.Need-with-abstraction-requires (claims t) (sequence-at t) sequence.Post Inv-loop μ-loop
-  with-abstraction-requires c κs = (roomy-after (c .before .before .before .before .before .before .before .before .before .before .before .before .before .before .before .before .before .before .loop .inv) (rw (c .before .before .before .before .before .before .before .before .before .before .before .before .before .token2 .given .1) at (c .before .before .before .before .before .before .before .before .before .before .before .before .before .before .before .before .token-at .ensures)) (c .before .before .before .inner .given .1) (c .before .before .before .before .before .before .before .before .before .group .ensures) (c .before .before .before .before .before .before .before .before .before .before .before .before .before .before .before .before .before .before .before .before .before .before .pre .1), joinable-after (c .before .before .before .before .before .before .before .before .before .before .before .before .before .before .before .before .before .before .loop .inv) (rw (c .before .before .before .before .before .before .before .before .before .before .before .before .before .token2 .given .1) at (c .before .before .before .before .before .before .before .before .before .before .before .before .before .before .before .before .token-at .ensures)) (c .before .before .before .inner .given .1) (c .before .before .before .before .before .before .before .before .before .group .ensures), last-few (c .before .before .before .before .before .before .before .before .before .before .before .before .before .before .before .before .before .before .loop .inv) (rw (c .before .before .before .before .before .before .before .before .before .before .before .before .before .token2 .given .1) at (c .before .before .before .before .before .before .before .before .before .before .before .before .before .before .before .before .token-at .ensures)) (c .before .before .before .inner .given .1) (c .before .before .before .before .before .before .before .before .before .group .ensures) (c .before .before .before .before .before .before .before .before .before .before .before .before .before .before .before .before .before .before .before .before .before .before .pre .1))
+  with-abstraction-requires : lts.Need-with-abstraction-requires (claims t)
+      (sequence-at t) sequence.Post Inv-loop μ-loop
+  with-abstraction-requires c κs =
+      let at-inner = c .before .before .before in
+      let at-group = at-inner .before .before .before .before .before .before in
+      let at-token2 = at-group .before .before .before .before in
+      let at-token-at = at-token2 .before .before .before in
+      let at-loop = at-token-at .before .before in
+      let start = at-loop .before .before .before .before in
+      let met = rw (at-token2 .token2 .given .1) at (at-token-at .token-at .ensures) in
+      let so-far = at-loop .loop .inv in
+      let went = at-inner .inner .given .1 in
+      let group = at-group .group .ensures in
+      let few = last-few so-far met went group (start .pre .1) in
+      (roomy-after so-far met went group (start .pre .1), joinable-after so-far met went group, few)
 
   same-length-3 : lts.Need-same-length-3 (claims t) (sequence-at t) sequence.Post Inv-loop μ-loop
-  same-length-3 c = c .before .before .before .before .before .before .before .before .before .before .before .before .before .group .ensures .kept .as-long ∙ c .before .before .before .before .before .before .before .before .before .before .before .before .before .before .before .before .before .before .before .before .before .before .loop .inv .kept .as-long
+  same-length-3 c =
+      let at-group =
+      c .before .before .before .before .before .before .before .before .before .before .before .before .before in
+      let at-loop = at-group .before .before .before .before .before .before .before .before .before in
+      at-group .group .ensures .kept .as-long ∙ at-loop .loop .inv .kept .as-long
 
   same-length-4 : lts.Need-same-length-4 (claims t) (sequence-at t) sequence.Post Inv-loop μ-loop
-  same-length-4 c = c .before .before .before .with-abstraction .ensures .adds .same .as-long ∙ c .before .before .before .before .before .before .before .before .before .before .before .before .before .group .ensures .same .as-long ∙ c .before .before .before .before .before .before .before .before .before .before .before .before .before .before .before .before .before .before .before .before .before .before .loop .inv .same .as-long
+  same-length-4 c =
+      let at-with-abstraction = c .before .before .before in
+      let at-group =
+      at-with-abstraction .before .before .before .before .before .before .before .before .before .before in
+      let at-loop = at-group .before .before .before .before .before .before .before .before .before in
+      at-with-abstraction .with-abstraction .ensures .adds .same .as-long ∙ at-group .group .ensures .same .as-long ∙
+      at-loop .loop .inv .same .as-long
 
   returns-2 : lts.Need-returns-2 (claims t) (sequence-at t) sequence.Post Inv-loop μ-loop
-  returns-2 c = body-read (c .before .before .before .before .before .before .before .before .before .before .before .before .before .before .before .before .before .before .before .before .before .before .loop .inv) (rw (c .before .before .before .before .before .before .before .before .before .before .before .before .before .before .before .before .before .token2 .given .1) at (c .before .before .before .before .before .before .before .before .before .before .before .before .before .before .before .before .before .before .before .before .token-at .ensures)) (c .before .before .before .before .before .before .before .inner .given .1) (c .before .before .before .before .before .before .before .before .before .before .before .before .before .group .ensures) (c .before .before .before .before .before .if1 .taken) (c .before .before .before .with-abstraction .ensures) (c .came .ensures)
+  returns-2 c =
+      let at-with-abstraction = c .before .before .before in
+      let at-if1 = at-with-abstraction .before .before in
+      let at-inner = at-if1 .before .before in
+      let at-group = at-inner .before .before .before .before .before .before in
+      let at-token2 = at-group .before .before .before .before in
+      let at-token-at = at-token2 .before .before .before in
+      let at-loop = at-token-at .before .before in
+      let met = rw (at-token2 .token2 .given .1) at (at-token-at .token-at .ensures) in
+      body-read (at-loop .loop .inv) met (at-inner .inner .given .1) (at-group .group .ensures) (at-if1 .if1 .taken)
+      (at-with-abstraction .with-abstraction .ensures) (c .came .ensures)
 
   joined-requires : lts.Need-joined-requires (claims t) (sequence-at t) sequence.Post Inv-loop μ-loop
-  joined-requires c κs = (roomy-after (c .before .before .before .before .before .before .before .before .before .before .before .before .before .before .before .before .before .before .loop .inv) (rw (c .before .before .before .before .before .before .before .before .before .before .before .before .before .token2 .given .1) at (c .before .before .before .before .before .before .before .before .before .before .before .before .before .before .before .before .token-at .ensures)) (c .before .before .before .inner .given .1) (c .before .before .before .before .before .before .before .before .before .group .ensures) (c .before .before .before .before .before .before .before .before .before .before .before .before .before .before .before .before .before .before .before .before .before .before .pre .1), joinable-after (c .before .before .before .before .before .before .before .before .before .before .before .before .before .before .before .before .before .before .loop .inv) (rw (c .before .before .before .before .before .before .before .before .before .before .before .before .before .token2 .given .1) at (c .before .before .before .before .before .before .before .before .before .before .before .before .before .before .before .before .token-at .ensures)) (c .before .before .before .inner .given .1) (c .before .before .before .before .before .before .before .before .before .group .ensures))
+  joined-requires c κs =
+      let at-inner = c .before .before .before in
+      let at-group = at-inner .before .before .before .before .before .before in
+      let at-token2 = at-group .before .before .before .before in
+      let at-token-at = at-token2 .before .before .before in
+      let at-loop = at-token-at .before .before in
+      let start = at-loop .before .before .before .before in
+      let met = rw (at-token2 .token2 .given .1) at (at-token-at .token-at .ensures) in
+      let so-far = at-loop .loop .inv in
+      let went = at-inner .inner .given .1 in
+      let group = at-group .group .ensures in
+      (roomy-after so-far met went group (start .pre .1), joinable-after so-far met went group)
 
   loop-less-2 : lts.Need-loop-less-2 (claims t) (sequence-at t) sequence.Post Inv-loop μ-loop
-  loop-less-2 c = omega (arith, went-on (c .before .before .before .before .before .before .before .before .before .before .before .before .before .before .before .before .before .before .before .before .before .loop .inv) (rw (c .before .before .before .before .before .before .before .before .before .before .before .before .before .before .before .before .token2 .given .1) at (c .before .before .before .before .before .before .before .before .before .before .before .before .before .before .before .before .before .before .before .token-at .ensures)) (c .before .before .before .before .before .before .inner .given .1) (c .before .before .before .before .before .before .before .before .before .before .before .before .group .ensures))
+  loop-less-2 c =
+      let at-inner = c .before .before .before .before .before .before in
+      let at-group = at-inner .before .before .before .before .before .before in
+      let at-token2 = at-group .before .before .before .before in
+      let at-token-at = at-token2 .before .before .before in
+      let at-loop = at-token-at .before .before in
+      let met = rw (at-token2 .token2 .given .1) at (at-token-at .token-at .ensures) in
+      omega (arith, went-on (at-loop .loop .inv) met (at-inner .inner .given .1) (at-group .group .ensures))
 
   loop-again-2 : lts.Need-loop-again-2 (claims t) (sequence-at t) sequence.Post Inv-loop μ-loop
-  loop-again-2 c = group-read (c .before .before .before .before .before .before .before .before .before .before .before .before .before .before .before .before .before .before .before .before .before .loop .inv) (rw (c .before .before .before .before .before .before .before .before .before .before .before .before .before .before .before .before .token2 .given .1) at (c .before .before .before .before .before .before .before .before .before .before .before .before .before .before .before .before .before .before .before .token-at .ensures)) (c .before .before .before .before .before .before .inner .given .1) (c .before .before .before .before .before .before .before .before .before .before .before .before .group .ensures) (c .before .before .before .before .if1 .left) (c .before .before .joined .ensures)
-
-  same-length-5 : lts.Need-same-length-5 (claims t) (sequence-at t) sequence.Post Inv-loop μ-loop
-  same-length-5 c = c .before .before .before .before .before .before .loop .inv .kept .as-long
-
-  same-length-6 : lts.Need-same-length-6 (claims t) (sequence-at t) sequence.Post Inv-loop μ-loop
-  same-length-6 c = c .before .before .before .before .before .before .loop .inv .same .as-long
+  loop-again-2 c =
+      let at-joined = c .before .before in
+      let at-if1 = at-joined .before .before in
+      let at-inner = at-if1 .before .before in
+      let at-group = at-inner .before .before .before .before .before .before in
+      let at-token2 = at-group .before .before .before .before in
+      let at-token-at = at-token2 .before .before .before in
+      let at-loop = at-token-at .before .before in
+      let met = rw (at-token2 .token2 .given .1) at (at-token-at .token-at .ensures) in
+      group-read (at-loop .loop .inv) met (at-inner .inner .given .1) (at-group .group .ensures) (at-if1 .if1 .left)
+      (at-joined .joined .ensures)
 
   returns-3 : lts.Need-returns-3 (claims t) (sequence-at t) sequence.Post Inv-loop μ-loop
-  returns-3 c = closed-here (c .before .before .before .before .before .before .loop .inv) (rw (c .before .enum-told .given .1) at (c .before .before .before .before .token-at .ensures)) (c .came2 .ensures)
-
-  same-length-7 : lts.Need-same-length-7 (claims t) (sequence-at t) sequence.Post Inv-loop μ-loop
-  same-length-7 c = c .before .before .before .before .before .before .loop .inv .kept .as-long
-
-  same-length-8 : lts.Need-same-length-8 (claims t) (sequence-at t) sequence.Post Inv-loop μ-loop
-  same-length-8 c = c .before .before .before .before .before .before .loop .inv .same .as-long
+  returns-3 c =
+      let at-token-at = c .before .before .before .before in
+      let at-loop = at-token-at .before .before in
+      closed-here (at-loop .loop .inv) (rw (c .before .enum-told .given .1) at (at-token-at .token-at .ensures))
+      (c .came2 .ensures)
 
   returns-4 : lts.Need-returns-4 (claims t) (sequence-at t) sequence.Post Inv-loop μ-loop
-  returns-4 c = ended-here (c .before .before .before .before .before .before .loop .inv) (rw (c .before .enum-told2 .given .1) at (c .before .before .before .before .token-at .ensures)) (c .came3 .ensures)
-
-  same-length-9 : lts.Need-same-length-9 (claims t) (sequence-at t) sequence.Post Inv-loop μ-loop
-  same-length-9 c = c .before .before .before .before .before .loop .inv .kept .as-long
-
-  same-length-10 : lts.Need-same-length-10 (claims t) (sequence-at t) sequence.Post Inv-loop μ-loop
-  same-length-10 c = c .before .before .before .before .before .loop .inv .same .as-long
+  returns-4 c =
+      let at-token-at = c .before .before .before .before in
+      let at-loop = at-token-at .before .before in
+      ended-here (at-loop .loop .inv) (rw (c .before .enum-told2 .given .1) at (at-token-at .token-at .ensures))
+      (c .came3 .ensures)
 
   returns-5 : lts.Need-returns-5 (claims t) (sequence-at t) sequence.Post Inv-loop μ-loop
-  returns-5 c = undefined-here (c .before .before .before .before .before .loop .inv) (rw (c .enum-told3 .given .1) at (c .before .before .before .token-at .ensures))
+  returns-5 c =
+      let at-token-at = c .before .before .before in
+      let at-loop = at-token-at .before .before in
+      undefined-here (at-loop .loop .inv) (rw (c .enum-told3 .given .1) at (at-token-at .token-at .ensures))
 
 pub +group+sequence-spec : {M : Type 1} → statement M
 +group+sequence-spec = close μ-group μ-sequence
     (λ t. group-lts.spec (group-claims t) (group-at t) group.Post
-    (group-returns t) (λ c. search needs) (group-slice-write-names t) (λ c. search needs) (group-sequence-requires t) (group-same-length t) (group-same-length-2 t) (group-returns-2 t))
+    (group-returns t) (λ c. search needs) (group-slice-write-names t) (λ c. search needs) (group-sequence-requires t)
+    (group-same-length t) (group-same-length-2 t) (group-returns-2 t))
     (λ t. lts.spec (claims t) (sequence-at t) sequence.Post
-    Inv-loop μ-loop (loop-holds t) (token-at-requires t) (λ c. search needs) (with-variable-requires t) (loop-less t) (loop-again t) (λ c. search needs) (group-requires t) (λ c. search needs) (same-length t) (same-length-2 t) (returns t) (λ c. search needs) (with-abstraction-requires t) (λ c κs. search needs) (same-length-3 t) (same-length-4 t) (returns-2 t) (joined-requires t) (loop-less-2 t) (loop-again-2 t) (λ c. search needs) (λ c κs. search needs) (same-length-5 t) (same-length-6 t) (returns-3 t) (λ c. search needs) (λ c κs. search needs) (same-length-7 t) (same-length-8 t) (returns-4 t) (λ c. search needs) (same-length-9 t) (same-length-10 t) (returns-5 t))
+    Inv-loop μ-loop (loop-holds t) (token-at-requires t) (λ c. search needs) (with-variable-requires t) (loop-less t)
+    (loop-again t) (λ c. search needs) (group-requires t) (λ c. search needs) (same-length t) (same-length-2 t)
+    (returns t) (λ c. search needs) (with-abstraction-requires t) (λ c κs. search needs) (same-length-3 t)
+    (same-length-4 t) (returns-2 t) (joined-requires t) (loop-less-2 t) (loop-again-2 t) (λ c. search needs)
+    (λ c κs. search needs) (λ c. c .before .before .before .before .before .before .loop .inv .kept .as-long)
+    (λ c. c .before .before .before .before .before .before .loop .inv .same .as-long) (returns-3 t)
+    (λ c. search needs) (λ c κs. search needs)
+    (λ c. c .before .before .before .before .before .before .loop .inv .kept .as-long)
+    (λ c. c .before .before .before .before .before .before .loop .inv .same .as-long) (returns-4 t)
+    (λ c. search needs) (λ c. c .before .before .before .before .before .loop .inv .kept .as-long)
+    (λ c. c .before .before .before .before .before .loop .inv .same .as-long) (returns-5 t))

@@ -47,7 +47,8 @@ returns-4 c =
 returns-5 : tie.Need-returns-5
 unfolding first-word word-at glyph
 returns-5 c =
-    goes-past first-word (search needs) (c .before .before .before .before .past .ensures) Right refl tt (rw (c .if5 .taken))
+    goes-past first-word (search needs) (c .before .before .before .before .past .ensures) Right refl tt
+    (rw (c .if5 .taken))
 
 returns-6 : tie.Need-returns-6
 returns-6 c =

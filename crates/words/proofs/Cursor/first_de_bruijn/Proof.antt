@@ -32,7 +32,8 @@ returns-5 c =
 returns-6 : tie.Need-returns-6
 unfolding first-word word-at glyph
 returns-6 c =
-    goes-past first-word (search needs) (c .before .before .before .before .past .ensures) Right refl tt (rw (c .if6 .taken))
+    goes-past first-word (search needs) (c .before .before .before .before .past .ensures) Right refl tt
+    (rw (c .if6 .taken))
 
 returns-7 : tie.Need-returns-7
 returns-7 c =
