@@ -124,7 +124,7 @@ step-to {after = after} valid placed forward w e =
 module _ {n : Notation} {s : List ℕ} {os : List Open} {here after : Cursor} (valid : Valid n s (here .at))
     (placed : Placed s after) (forward : here .at ≤ after .at) where
   pub meets-number : (i : ℕ) → here .at + 1 ≤ after .at
-      → next n (remains s (here .at)) ≡ word (number i) (remains s (after .at)) → MetIndex n s os here after i
+      → next n (remains s (here .at)) ≡ word (number i) (remains s (after .at)) → MetIndex n s os here i after
   meets-number i moved e = record {
     step = step-to valid placed forward (number i) e;
     moved = omega arith;
@@ -134,7 +134,7 @@ module _ {n : Notation} {s : List ℕ} {os : List Open} {here after : Cursor} (v
 
   module _ (x : List ℕ) (i : ℕ) (looked : found i ≡ resolved x 1 os)
       (e : next n (remains s (here .at)) ≡ word (name x) (remains s (after .at))) where
-    pub meets-name : (i ≡ 0 → ⊥) → here .at + 1 ≤ after .at → MetIndex n s os here after i
+    pub meets-name : (i ≡ 0 → ⊥) → here .at + 1 ≤ after .at → MetIndex n s os here i after
     meets-name some-index moved = record {
       step = step-to valid placed forward (name x) e;
       moved = omega arith;
@@ -142,14 +142,14 @@ module _ {n : Notation} {s : List ℕ} {os : List Open} {here after : Cursor} (v
           (goes-name os (words-on n s (after .at)) st ps x i (sym looked ∙ found-some i (omega arith)));
     }
 
-    pub meets-undefined : i ≡ 0 → MetUndefined n s os here after
+    pub meets-undefined : i ≡ 0 → MetUndefined n s os here
     meets-undefined none-so = record {
       goes = λ st ps. rw (words-after valid (after .at) (name x) e)
           (goes-undefined os (words-on n s (after .at)) st ps x (sym looked ∙ ap found none-so));
     }
 
   pub meets-left : here .at + 1 ≤ after .at → next n (remains s (here .at)) ≡ word opening (remains s (after .at))
-      → MetOpening n s os here after 0
+      → MetOpening n s os here 0 after
   unfolding word-of
   meets-left moved e = record {
     step = step-to valid placed forward opening e;
@@ -161,7 +161,7 @@ module _ {n : Notation} {s : List ℕ} {os : List Open} {here after : Cursor} (v
   pub meets-binder : (x : Name) → here .at + 1 ≤ after .at → Clean s → (0 < x .from) × Inside s x → {w : ℕ}
       → w ≡ packed x
       → next n (remains s (here .at)) ≡ word (binder (name-of s x)) (remains s (after .at))
-      → MetOpening n s os here after w
+      → MetOpening n s os here w after
   unfolding word-of
   meets-binder x moved clean (some-before, inside) is e =
       let low : x .from ≤ most-text = omega (arith, inside .forward, inside .within, clean .short) in

@@ -87,7 +87,7 @@ module _ {n : Notation} {s names : List ℕ} {count : ℕ} {store : List ℕ} {m
 module _ {n : Notation} {s names : List ℕ} {count : ℕ} {store : List ℕ} {most : ℕ} {from : Cursor} {base : ℕ}
     {names′ store′ : List ℕ} {here : Cursor} {read : Built}
     (so-far : SoFar n s names count store most from base names′ store′ here read)
-    {after : Cursor} {w : ℕ} (met : MetOpening n s (opens s names′ count) here after w) {names″ store″ : List ℕ} where
+    {after : Cursor} {w : ℕ} (met : MetOpening n s (opens s names′ count) here w after) {names″ store″ : List ℕ} where
   -- 6 or 7 inside, or 7 here
   pub nested-stops : {r : Went} {e : Refusal} → r ≡ Stopped e
       → Groups n s names′ count w store′ most after (read .used) r names″ store″

@@ -96,7 +96,7 @@ module _ {n : Notation} {s names : List ℕ} {count : ℕ} {store : List ℕ} {m
 
   -- A VARIABLE
   pub variable-read : {store″ : List ℕ} {after : Cursor} {i : ℕ} {more : Built}
-      → MetIndex n s (opens s names′ count) here after i → Extends store′ most read i store″ more
+      → MetIndex n s (opens s names′ count) here i after → Extends store′ most read i store″ more
       → SoFar n s names count store most from base names′ store″ after more
   variable-read {i = i} {more = more} met extends =
       one-item more (reading (some (var i))) (met .step) (omega (arith, met .moved, extends .adds .most-added))
@@ -145,7 +145,7 @@ module _ {n : Notation} {s names : List ℕ} {count : ℕ} {store : List ℕ} {m
       → go (opens s names count) (words-on n s (from .at)) (unless-void failed (reading none)) ps ≡ refused e
   stops e goes failed ps = so-far .goes failed ps ∙ goes (unless-void failed (so-far .state)) ps
 
-  pub undefined-here : {after : Cursor} → MetUndefined n s (opens s names′ count) here after
+  pub undefined-here : MetUndefined n s (opens s names′ count) here
       → Reads n s names count store most from base (Stopped UndefinedFreeVariable) names′ store′
   undefined-here met =
       reads-so (to-a-refusal (stops calculus.undefined-free-variable (rw same-open at (met .goes))))

@@ -14,7 +14,6 @@ use Rattle.words.specs.declared.Cursor.{Cursor}
 use Rattle.words.proofs.Ahead.{words-at}
 use Rattle.parser.specs.Opens.{place-of, open-of}
 use Rattle.parser.specs.States.{State, reading, beside, go}
-use Rattle.parser.specs.declared.tokens.Met.{Met}
 use Rattle.parser.specs.declared.tokens.Token.{Token}
 use Rattle.parser.specs.declared.tokens.Token.the-variants as token
 
@@ -42,24 +41,24 @@ pub record Step (n : Notation) (s : List ℕ) (here next : Cursor) : Type 0 wher
   pub forward : here .at ≤ next .at
 
 -- the token at a place, with so much open: how reading goes on
-module _ (n : Notation) (s : List ℕ) (os : List Open) (here next : Cursor) where
-  pub record MetIndex (i : ℕ) : Type 0 where
+module _ (n : Notation) (s : List ℕ) (os : List Open) (here : Cursor) where
+  pub record MetIndex (i : ℕ) (next : Cursor) : Type 0 where
     pub step : Step n s here next
     pub moved : here .at < next .at
     pub goes : (st : State) (ps : List Waits) → go os (words-on n s (here .at)) st ps
         ≡ go os (words-on n s (next .at)) (beside st (reading (some (var i)))) ps
 
-  pub record MetOpening (w : ℕ) : Type 0 where
+  pub record MetOpening (w : ℕ) (next : Cursor) : Type 0 where
     pub step : Step n s here next
     pub moved : here .at < next .at
     pub inside : Inside s (place-of w)
     pub ahead : words-on n s (here .at) ≡ word-of (open-of s w) ∷ words-on n s (next .at)
 
-  pub record MetClosing : Type 0 where
+  pub record MetClosing (next : Cursor) : Type 0 where
     pub step : Step n s here next
     pub ahead : words-on n s (here .at) ≡ closing ∷ words-on n s (next .at)
 
-  pub record MetEnd : Type 0 where
+  pub record MetEnd (next : Cursor) : Type 0 where
     pub step : Step n s here next
     pub ahead : words-on n s (here .at) ≡ []
     pub last : words-on n s (next .at) ≡ []
@@ -67,12 +66,9 @@ module _ (n : Notation) (s : List ℕ) (os : List Open) (here next : Cursor) whe
   pub record MetUndefined : Type 0 where
     pub goes : (st : State) (ps : List Waits) → go os (words-on n s (here .at)) st ps ≡ refused undefined-free-variable
 
-  abbrev pub MeetsToken : Token → Type 0
-  MeetsToken (token.Index i) = MetIndex i
-  MeetsToken (token.Opening w) = MetOpening w
-  MeetsToken token.Closing = MetClosing
-  MeetsToken token.End = MetEnd
-  MeetsToken token.Undefined = MetUndefined
-
-abbrev pub Meets : Notation → List ℕ → List Open → Cursor → Met → Type 0
-Meets n s os here r = MeetsToken n s os here (r .next) (r .token)
+  abbrev pub Meets : Token → Type 0
+  Meets (token.Index i next) = MetIndex i next
+  Meets (token.Opening w next) = MetOpening w next
+  Meets (token.Closing next) = MetClosing next
+  Meets (token.End next) = MetEnd next
+  Meets token.Undefined = MetUndefined

@@ -56,19 +56,15 @@ pub(crate) fn sequence(
         used: base,
     };
     loop {
-        let met = token_at(text, notation, names, count, here);
-        let next = met.next;
-        let token = met.token;
-        match token {
-            Token::Index(index) => {
+        match token_at(text, notation, names, count, here) {
+            Token::Index(index, next) => {
                 read = with_variable(store, cap, read, index);
                 here = next;
             }
-            Token::Opening(w) => {
-                match group(text, notation, names, count, w, store, cap, next, read.used) {
-                    Went::Stopped(why) => {
-                        return Went::Stopped(why);
-                    }
+            Token::Opening(w, next) => {
+                let went = group(text, notation, names, count, w, store, cap, next, read.used);
+                match went {
+                    Went::Stopped(why) => return Went::Stopped(why),
                     Went::On {
                         read: inner,
                         here: after,
@@ -82,15 +78,9 @@ pub(crate) fn sequence(
                     }
                 }
             }
-            Token::Closing => {
-                return came(read, next, true);
-            }
-            Token::End => {
-                return came(read, next, false);
-            }
-            Token::Undefined => {
-                return Went::Stopped(Refusal::UndefinedFreeVariable);
-            }
+            Token::Closing(next) => return came(read, next, true),
+            Token::End(next) => return came(read, next, false),
+            Token::Undefined => return Went::Stopped(Refusal::UndefinedFreeVariable),
         }
     }
 }

@@ -54,19 +54,13 @@ fn resolve(text: &[u8], names: &[u64], count: usize, name: Name) -> u64
     0
 }
 
-// A token; what opens is 0 for a `(`, and the place of its name for a binder.
+// A token and the place after it; what opens is 0 for a `(`, and the place of its name for a binder.
 pub(crate) enum Token {
-    Index(u64),
-    Opening(u64),
-    Closing,
-    End,
+    Index(u64, Cursor),
+    Opening(u64, Cursor),
+    Closing(Cursor),
+    End(Cursor),
     Undefined,
-}
-
-// A token and the place after it.
-pub(crate) struct Met {
-    pub(crate) token: Token,
-    pub(crate) next: Cursor,
 }
 
 pub(crate) fn token_at(
@@ -75,7 +69,7 @@ pub(crate) fn token_at(
     names: &[u64],
     count: usize,
     here: Cursor,
-) -> Met
+) -> Token
     requires { ⌜ Clean (now text) × Placed (now text) here × Valid (notation-of notation) (now text) (here .at)
         × Opened (now text) (now names) count ⌝ }
     ensures { λ r. ⌜ Meets (notation-of notation) (now (text .entry)) (opens (now (text .entry)) (now (names .entry)) count)
@@ -85,43 +79,19 @@ pub(crate) fn token_at(
     let next = step.next;
     let word = step.word;
     match word {
-        Word::Number(index) => Met {
-            token: Token::Index(index),
-            next,
-        },
+        Word::Number(index) => Token::Index(index, next),
         Word::Named(name) => {
             let index = resolve(text, names, count, name);
             if index == 0 {
-                return Met {
-                    token: Token::Undefined,
-                    next,
-                };
+                return Token::Undefined;
             }
-            Met {
-                token: Token::Index(index),
-                next,
-            }
+            Token::Index(index, next)
         }
-        Word::Left => Met {
-            token: Token::Opening(0),
-            next,
-        },
-        Word::Binder(name) => Met {
-            token: Token::Opening(pack(name)),
-            next,
-        },
-        Word::Right => Met {
-            token: Token::Closing,
-            next,
-        },
-        Word::End => Met {
-            token: Token::End,
-            next,
-        },
+        Word::Left => Token::Opening(0, next),
+        Word::Binder(name) => Token::Opening(pack(name), next),
+        Word::Right => Token::Closing(next),
+        Word::End => Token::End(next),
         // not met: all words were judged
-        Word::Invalid => Met {
-            token: Token::End,
-            next,
-        },
+        Word::Invalid => Token::Undefined,
     }
 }

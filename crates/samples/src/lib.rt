@@ -117,6 +117,25 @@ fn one_if_other(a: u8, b: u8) -> usize
     if a == b { 0 } else { 1 }
 }
 
+// Bytes, one copy after another.
+pub fn repeat(buf: &mut [u8], at: usize, bytes: &[u8], count: usize) -> usize {
+    let mut to = at;
+    for _ in 0..count {
+        to = copy(buf, to, bytes);
+    }
+    to
+}
+
+fn copy(buf: &mut [u8], at: usize, bytes: &[u8]) -> usize {
+    let mut to = at;
+    let mut i: usize = 0;
+    while i < bytes.len() {
+        to = put(buf, to, bytes[i]);
+        i += 1;
+    }
+    to
+}
+
 // Where the word that begins at a place ends: at a space, or with the bytes.
 pub fn word_end(words: &[u8], from: usize) -> usize {
     let mut at = from;
@@ -135,6 +154,35 @@ pub fn others(buf: &[u8], from: usize, b: u8) -> usize {
     let mut i = from;
     while i < buf.len() {
         count += one_if_other(buf[i], b);
+        i += 1;
+    }
+    count
+}
+
+// How many numbers are zero before the first that is not.
+pub fn zeros(room: &[u64]) -> usize {
+    let mut i: usize = 0;
+    while i < room.len() {
+        if room[i] != 0 {
+            return i;
+        }
+        i += 1;
+    }
+    i
+}
+
+fn one_if_other_number(a: u64, b: u64) -> usize
+    ensures { λ r. ⌜ r ≤ 1 ⌝ }
+{
+    if a == b { 0 } else { 1 }
+}
+
+// How many of the numbers from a place on are not the given one.
+pub fn other_numbers(room: &[u64], from: usize, n: u64) -> usize {
+    let mut count: usize = 0;
+    let mut i = from;
+    while i < room.len() {
+        count += one_if_other_number(room[i], n);
         i += 1;
     }
     count

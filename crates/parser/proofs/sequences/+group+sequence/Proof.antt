@@ -115,34 +115,34 @@ module _ (t : ℕ) where
 
   with-variable-requires : lts.Need-with-variable-requires (claims t) (sequence-at t) sequence.Post Inv-loop μ-loop
   with-variable-requires c κs =
-      let at-loop = c .before .before .before .before .before .before .before in
+      let at-loop = c .before .before .before .before .before .before in
       let start = at-loop .before .before .before .before in
       let so-far = at-loop .loop .inv in
       (roomy-here so-far (start .pre .1), enclosable-here so-far (start .pre .1), few-used so-far (start .pre .1))
 
   loop-less : lts.Need-loop-less (claims t) (sequence-at t) sequence.Post Inv-loop μ-loop
   loop-less c =
-      let at-token = c .before .before .before .before .before in
-      let at-token-at = at-token .before .before .before in
-      let met = rw (at-token .token .given .1) at (at-token-at .token-at .ensures) in
+      let at-index = c .before .before .before .before .before in
+      let at-token-at = at-index .before .before in
+      let met = rw (at-index .index .given .1) at (at-token-at .token-at .ensures) in
       omega (arith, met .moved, met .step .placed .inside)
 
   loop-again : lts.Need-loop-again (claims t) (sequence-at t) sequence.Post Inv-loop μ-loop
   loop-again c =
       let at-with-variable = c .before .before in
-      let at-token = at-with-variable .before .before .before in
-      let at-token-at = at-token .before .before .before in
+      let at-index = at-with-variable .before .before .before in
+      let at-token-at = at-index .before .before in
       let at-loop = at-token-at .before .before in
-      let met = rw (at-token .token .given .1) at (at-token-at .token-at .ensures) in
+      let met = rw (at-index .index .given .1) at (at-token-at .token-at .ensures) in
       variable-read (at-loop .loop .inv) met (at-with-variable .with-variable .ensures)
 
   group-requires : lts.Need-group-requires (claims t) (sequence-at t) sequence.Post Inv-loop μ-loop
   group-requires c κs =
-      let at-token2 = c .before .before .before in
-      let at-token-at = at-token2 .before .before .before in
+      let at-w = c .before .before .before in
+      let at-token-at = at-w .before .before in
       let at-loop = at-token-at .before .before in
       let start = at-loop .before .before .before .before in
-      let met = rw (at-token2 .token2 .given .1) at (at-token-at .token-at .ensures) in
+      let met = rw (at-w .w .given .1) at (at-token-at .token-at .ensures) in
       let here = at-loop .loop .inv .reaches .step in (
         omega (arith, start .pre .0, met .moved, here .forward, met .step .placed .inside),
         (ready-inside (at-loop .loop .inv) (start .pre .1) (met .step), met .inside),
@@ -151,36 +151,35 @@ module _ (t : ℕ) where
   same-length : lts.Need-same-length (claims t) (sequence-at t) sequence.Post Inv-loop μ-loop
   same-length c =
       let at-group = c .before .before .before .before .before .before .before in
-      let at-loop = at-group .before .before .before .before .before .before .before .before .before in
+      let at-loop = at-group .before .before .before .before .before .before .before .before in
       at-group .group .ensures .kept .as-long ∙ at-loop .loop .inv .kept .as-long
 
   same-length-2 : lts.Need-same-length-2 (claims t) (sequence-at t) sequence.Post Inv-loop μ-loop
   same-length-2 c =
       let at-group = c .before .before .before .before .before .before .before in
-      let at-loop = at-group .before .before .before .before .before .before .before .before .before in
+      let at-loop = at-group .before .before .before .before .before .before .before .before in
       at-group .group .ensures .same .as-long ∙ at-loop .loop .inv .same .as-long
 
   returns : lts.Need-returns (claims t) (sequence-at t) sequence.Post Inv-loop μ-loop
   returns c =
       let at-group = c .before .before .before .before .before .before .before in
-      let at-token2 = at-group .before .before .before .before in
-      let at-token-at = at-token2 .before .before .before in
+      let at-w = at-group .before .before .before .before in
+      let at-token-at = at-w .before .before in
       let at-loop = at-token-at .before .before in
-      let met = rw (at-token2 .token2 .given .1) at (at-token-at .token-at .ensures) in
-      nested-stops (at-loop .loop .inv) met (c .before .why .given .1) (at-group .group .ensures)
+      let met = rw (at-w .w .given .1) at (at-token-at .token-at .ensures) in
+      nested-stops (at-loop .loop .inv) met (c .before .went .given .1) (at-group .group .ensures)
 
-  with-abstraction-requires : lts.Need-with-abstraction-requires (claims t)
-      (sequence-at t) sequence.Post Inv-loop μ-loop
+  with-abstraction-requires : lts.Need-with-abstraction-requires (claims t) (sequence-at t) sequence.Post Inv-loop μ-loop
   with-abstraction-requires c κs =
-      let at-inner = c .before .before .before in
-      let at-group = at-inner .before .before .before .before .before .before in
-      let at-token2 = at-group .before .before .before .before in
-      let at-token-at = at-token2 .before .before .before in
+      let at-went2 = c .before .before .before in
+      let at-group = at-went2 .before .before .before .before .before .before in
+      let at-w = at-group .before .before .before .before in
+      let at-token-at = at-w .before .before in
       let at-loop = at-token-at .before .before in
       let start = at-loop .before .before .before .before in
-      let met = rw (at-token2 .token2 .given .1) at (at-token-at .token-at .ensures) in
+      let met = rw (at-w .w .given .1) at (at-token-at .token-at .ensures) in
       let so-far = at-loop .loop .inv in
-      let went = at-inner .inner .given .1 in
+      let went = at-went2 .went2 .given .1 in
       let group = at-group .group .ensures in
       let few = last-few so-far met went group (start .pre .1) in
       (roomy-after so-far met went group (start .pre .1), joinable-after so-far met went group, few)
@@ -189,7 +188,7 @@ module _ (t : ℕ) where
   same-length-3 c =
       let at-group =
       c .before .before .before .before .before .before .before .before .before .before .before .before .before in
-      let at-loop = at-group .before .before .before .before .before .before .before .before .before in
+      let at-loop = at-group .before .before .before .before .before .before .before .before in
       at-group .group .ensures .kept .as-long ∙ at-loop .loop .inv .kept .as-long
 
   same-length-4 : lts.Need-same-length-4 (claims t) (sequence-at t) sequence.Post Inv-loop μ-loop
@@ -197,7 +196,7 @@ module _ (t : ℕ) where
       let at-with-abstraction = c .before .before .before in
       let at-group =
       at-with-abstraction .before .before .before .before .before .before .before .before .before .before in
-      let at-loop = at-group .before .before .before .before .before .before .before .before .before in
+      let at-loop = at-group .before .before .before .before .before .before .before .before in
       at-with-abstraction .with-abstraction .ensures .adds .same .as-long ∙ at-group .group .ensures .same .as-long ∙
       at-loop .loop .inv .same .as-long
 
@@ -205,71 +204,73 @@ module _ (t : ℕ) where
   returns-2 c =
       let at-with-abstraction = c .before .before .before in
       let at-if1 = at-with-abstraction .before .before in
-      let at-inner = at-if1 .before .before in
-      let at-group = at-inner .before .before .before .before .before .before in
-      let at-token2 = at-group .before .before .before .before in
-      let at-token-at = at-token2 .before .before .before in
+      let at-went2 = at-if1 .before .before in
+      let at-group = at-went2 .before .before .before .before .before .before in
+      let at-w = at-group .before .before .before .before in
+      let at-token-at = at-w .before .before in
       let at-loop = at-token-at .before .before in
-      let met = rw (at-token2 .token2 .given .1) at (at-token-at .token-at .ensures) in
-      body-read (at-loop .loop .inv) met (at-inner .inner .given .1) (at-group .group .ensures) (at-if1 .if1 .taken)
+      let met = rw (at-w .w .given .1) at (at-token-at .token-at .ensures) in
+      body-read (at-loop .loop .inv) met (at-went2 .went2 .given .1) (at-group .group .ensures) (at-if1 .if1 .taken)
       (at-with-abstraction .with-abstraction .ensures) (c .came .ensures)
 
   joined-requires : lts.Need-joined-requires (claims t) (sequence-at t) sequence.Post Inv-loop μ-loop
   joined-requires c κs =
-      let at-inner = c .before .before .before in
-      let at-group = at-inner .before .before .before .before .before .before in
-      let at-token2 = at-group .before .before .before .before in
-      let at-token-at = at-token2 .before .before .before in
+      let at-went2 = c .before .before .before in
+      let at-group = at-went2 .before .before .before .before .before .before in
+      let at-w = at-group .before .before .before .before in
+      let at-token-at = at-w .before .before in
       let at-loop = at-token-at .before .before in
       let start = at-loop .before .before .before .before in
-      let met = rw (at-token2 .token2 .given .1) at (at-token-at .token-at .ensures) in
+      let met = rw (at-w .w .given .1) at (at-token-at .token-at .ensures) in
       let so-far = at-loop .loop .inv in
-      let went = at-inner .inner .given .1 in
+      let went = at-went2 .went2 .given .1 in
       let group = at-group .group .ensures in
       (roomy-after so-far met went group (start .pre .1), joinable-after so-far met went group)
 
   loop-less-2 : lts.Need-loop-less-2 (claims t) (sequence-at t) sequence.Post Inv-loop μ-loop
   loop-less-2 c =
-      let at-inner = c .before .before .before .before .before .before in
-      let at-group = at-inner .before .before .before .before .before .before in
-      let at-token2 = at-group .before .before .before .before in
-      let at-token-at = at-token2 .before .before .before in
+      let at-went2 = c .before .before .before .before .before .before in
+      let at-group = at-went2 .before .before .before .before .before .before in
+      let at-w = at-group .before .before .before .before in
+      let at-token-at = at-w .before .before in
       let at-loop = at-token-at .before .before in
-      let met = rw (at-token2 .token2 .given .1) at (at-token-at .token-at .ensures) in
-      omega (arith, went-on (at-loop .loop .inv) met (at-inner .inner .given .1) (at-group .group .ensures))
+      let met = rw (at-w .w .given .1) at (at-token-at .token-at .ensures) in
+      omega (arith, went-on (at-loop .loop .inv) met (at-went2 .went2 .given .1) (at-group .group .ensures))
 
   loop-again-2 : lts.Need-loop-again-2 (claims t) (sequence-at t) sequence.Post Inv-loop μ-loop
   loop-again-2 c =
       let at-joined = c .before .before in
       let at-if1 = at-joined .before .before in
-      let at-inner = at-if1 .before .before in
-      let at-group = at-inner .before .before .before .before .before .before in
-      let at-token2 = at-group .before .before .before .before in
-      let at-token-at = at-token2 .before .before .before in
+      let at-went2 = at-if1 .before .before in
+      let at-group = at-went2 .before .before .before .before .before .before in
+      let at-w = at-group .before .before .before .before in
+      let at-token-at = at-w .before .before in
       let at-loop = at-token-at .before .before in
-      let met = rw (at-token2 .token2 .given .1) at (at-token-at .token-at .ensures) in
-      group-read (at-loop .loop .inv) met (at-inner .inner .given .1) (at-group .group .ensures) (at-if1 .if1 .left)
+      let met = rw (at-w .w .given .1) at (at-token-at .token-at .ensures) in
+      group-read (at-loop .loop .inv) met (at-went2 .went2 .given .1) (at-group .group .ensures) (at-if1 .if1 .left)
       (at-joined .joined .ensures)
 
   returns-3 : lts.Need-returns-3 (claims t) (sequence-at t) sequence.Post Inv-loop μ-loop
   returns-3 c =
-      let at-token-at = c .before .before .before .before in
+      let at-next = c .before .before in
+      let at-token-at = at-next .before .before in
       let at-loop = at-token-at .before .before in
-      closed-here (at-loop .loop .inv) (rw (c .before .enum-told .given .1) at (at-token-at .token-at .ensures))
+      closed-here (at-loop .loop .inv) (rw (at-next .next .given .1) at (at-token-at .token-at .ensures))
       (c .came2 .ensures)
 
   returns-4 : lts.Need-returns-4 (claims t) (sequence-at t) sequence.Post Inv-loop μ-loop
   returns-4 c =
-      let at-token-at = c .before .before .before .before in
+      let at-next2 = c .before .before in
+      let at-token-at = at-next2 .before .before in
       let at-loop = at-token-at .before .before in
-      ended-here (at-loop .loop .inv) (rw (c .before .enum-told2 .given .1) at (at-token-at .token-at .ensures))
+      ended-here (at-loop .loop .inv) (rw (at-next2 .next2 .given .1) at (at-token-at .token-at .ensures))
       (c .came3 .ensures)
 
   returns-5 : lts.Need-returns-5 (claims t) (sequence-at t) sequence.Post Inv-loop μ-loop
   returns-5 c =
-      let at-token-at = c .before .before .before in
+      let at-token-at = c .before .before in
       let at-loop = at-token-at .before .before in
-      undefined-here (at-loop .loop .inv) (rw (c .enum-told3 .given .1) at (at-token-at .token-at .ensures))
+      undefined-here (at-loop .loop .inv) (rw (c .enum-told .given .1) at (at-token-at .token-at .ensures))
 
 pub +group+sequence-spec : {M : Type 1} → statement M
 +group+sequence-spec = close μ-group μ-sequence
@@ -286,5 +287,5 @@ pub +group+sequence-spec : {M : Type 1} → statement M
     (λ c. search needs) (λ c κs. search needs)
     (λ c. c .before .before .before .before .before .before .loop .inv .kept .as-long)
     (λ c. c .before .before .before .before .before .before .loop .inv .same .as-long) (returns-4 t)
-    (λ c. search needs) (λ c. c .before .before .before .before .before .loop .inv .kept .as-long)
-    (λ c. c .before .before .before .before .before .loop .inv .same .as-long) (returns-5 t))
+    (λ c. search needs) (λ c. c .before .before .before .before .loop .inv .kept .as-long)
+    (λ c. c .before .before .before .before .loop .inv .same .as-long) (returns-5 t))
