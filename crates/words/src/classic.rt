@@ -20,35 +20,28 @@ impl Cursor {
     {
         let from = self.at;
         if text.len() <= from {
-            return Step {
-                word: Word::Binder(unnamed(from)),
-                next: self,
-            };
+            let word = Word::Binder(unnamed(from));
+            return Step { word, next: self };
         }
         if is_figure(text[from]) {
-            return Step {
-                word: Word::Invalid,
-                next: self,
-            };
+            let word = Word::Invalid;
+            return Step { word, next: self };
         }
         let end = self.over(text, Run::Bound);
         let to = end.at;
         if text.len() <= to {
-            return Step {
-                word: Word::Binder(Name { from, to }),
-                next: end,
-            };
+            let word = Word::Binder(Name { from, to });
+            return Step { word, next: end };
         }
         if text[to] == 46 {
+            let word = Word::Binder(Name { from, to });
             return Step {
-                word: Word::Binder(Name { from, to }),
+                word,
                 next: end.past(text),
             };
         }
-        Step {
-            word: Word::Invalid,
-            next: end,
-        }
+        let word = Word::Invalid;
+        Step { word, next: end }
     }
 
     // The word that begins here, white space being passed, in classic notation.
@@ -59,10 +52,8 @@ impl Cursor {
     {
         let at = self.at;
         if text.len() <= at {
-            return Step {
-                word: Word::End,
-                next: self,
-            };
+            let word = Word::End;
+            return Step { word, next: self };
         }
         let b = text[at];
         let next = self.past(text);
@@ -73,16 +64,12 @@ impl Cursor {
             return next.binder(text);
         }
         if b == 40 {
-            return Step {
-                word: Word::Left,
-                next,
-            };
+            let word = Word::Left;
+            return Step { word, next };
         }
         if b == 41 {
-            return Step {
-                word: Word::Right,
-                next,
-            };
+            let word = Word::Right;
+            return Step { word, next };
         }
         if is_letter(b) {
             let end = next.over(text, Run::Elsewhere);
@@ -94,9 +81,7 @@ impl Cursor {
                 next: end,
             };
         }
-        Step {
-            word: Word::Invalid,
-            next: self,
-        }
+        let word = Word::Invalid;
+        Step { word, next: self }
     }
 }

@@ -22,48 +22,39 @@ impl Cursor {
         let mut here = self.past(text);
         let first = here.at;
         if text.len() <= first {
-            return Step {
-                word: Word::Invalid,
-                next: self,
-            };
+            let word = Word::Invalid;
+            return Step { word, next: self };
         }
         let mut index = hex_value(text[first]);
         if 15 < index {
-            return Step {
-                word: Word::Invalid,
-                next: here,
-            };
+            let word = Word::Invalid;
+            return Step { word, next: here };
         }
         here = here.past(text);
         while here.at < text.len() {
             let at = here.at;
             let b = text[at];
             if b == 93 {
+                let word = Word::Number(index);
                 return Step {
-                    word: Word::Number(index),
+                    word,
                     next: here.past(text),
                 };
             }
             let d = hex_value(b);
             if 15 < d {
-                return Step {
-                    word: Word::Invalid,
-                    next: here,
-                };
+                let word = Word::Invalid;
+                return Step { word, next: here };
             }
             if 1152921504606846975 < index {
-                return Step {
-                    word: Word::Invalid,
-                    next: here,
-                };
+                let word = Word::Invalid;
+                return Step { word, next: here };
             }
             index = index * 16 + d;
             here = here.past(text);
         }
-        Step {
-            word: Word::Invalid,
-            next: self,
-        }
+        let word = Word::Invalid;
+        Step { word, next: self }
     }
 
     // The word that begins here, white space being passed, in De Bruijn's notation.
@@ -74,10 +65,8 @@ impl Cursor {
     {
         let at = self.at;
         if text.len() <= at {
-            return Step {
-                word: Word::End,
-                next: self,
-            };
+            let word = Word::End;
+            return Step { word, next: self };
         }
         let b = text[at];
         if b == 91 {
@@ -85,39 +74,27 @@ impl Cursor {
         }
         let next = self.past(text);
         if b == 92 {
-            return Step {
-                word: Word::Binder(unnamed(next.at)),
-                next,
-            };
+            let word = Word::Binder(unnamed(next.at));
+            return Step { word, next };
         }
         if b == 206 {
-            return Step {
-                word: Word::Binder(unnamed(next.at)),
-                next,
-            };
+            let word = Word::Binder(unnamed(next.at));
+            return Step { word, next };
         }
         if b == 40 {
-            return Step {
-                word: Word::Left,
-                next,
-            };
+            let word = Word::Left;
+            return Step { word, next };
         }
         if b == 41 {
-            return Step {
-                word: Word::Right,
-                next,
-            };
+            let word = Word::Right;
+            return Step { word, next };
         }
         let d = hex_value(b);
         if d < 16 {
-            return Step {
-                word: Word::Number(d),
-                next,
-            };
+            let word = Word::Number(d);
+            return Step { word, next };
         }
-        Step {
-            word: Word::Invalid,
-            next: self,
-        }
+        let word = Word::Invalid;
+        Step { word, next: self }
     }
 }
