@@ -5,7 +5,7 @@ use Rattle.calculus.specs.Refusal.{Answer, given, refused, empty-express
 use Rattle.calculus.specs.Term.{Term, var, lam, app}
 use Rattle.calculus.specs.Walk.{Token, lambda, left, right, index}
 
--- what a sequence has read so far: nothing, or its items with-item from the left
+-- what a sequence has read so far: nothing, or its items joined from the left
 abbrev pub Part : Type 0
 Part = Option Term
 
@@ -25,8 +25,7 @@ at-end (some t) (for-group p ∷ ps) = at-end (some (with-item p t)) ps
 at-end (some t) (for-body p ∷ ps) = at-end (some (with-item p (lam t))) ps
 
 -- the part at a `)`: bodies end up to the group that it closes, and reading goes on there; the walk, which ends the
--- text
--- at a stray `)`, leaves none that closes nothing
+-- text at a stray `)`, leaves none that closes nothing
 unfoldable pub at-right : (Part → List Waits → Answer Term) → Part → List Waits → Answer Term
 at-right go none ps = refused empty-expression
 at-right go (some t) [] = given t

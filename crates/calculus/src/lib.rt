@@ -3,8 +3,11 @@
 // The most nodes that a cap may state, and that a query or a printer takes.
 pub const MOST_NODES: u64 = 65536;
 
-// The greatest height of a term, and the most parentheses and binders open at once in a text.
+// The greatest height of a term.
 pub const MOST_HEIGHT: u64 = 512;
+
+// The most parentheses and binders open at once in a text.
+pub const MOST_OPEN: usize = 512;
 
 // The most bytes of a text.
 pub const MOST_TEXT: usize = 2097152;

@@ -12,7 +12,7 @@ use Rattle.term.specs.Heads.{head-in}
 use Rattle.term.specs.Surveys.{Stands}
 use Rattle.term.specs.declared.Head.the-variants.{Variable, Abstraction, Application, Nothing}
 use Rattle.term.proofs.Places.{is-variable, is-abstraction, is-application, is-something, size-within}
-use Rattle.nodes.specs.Words.{nodes-in, height-in}
+use Rattle.nodes.specs.Packing.{nodes-in, height-in}
 use Rattle.nodes.specs.Store.{Holds, Same, word}
 use Rattle.nodes.specs.Coded.{Loadable, Loads}
 use Rattle.nodes.specs.declared.Loaded.{Loaded}

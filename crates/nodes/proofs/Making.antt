@@ -11,7 +11,7 @@ use borrow.Author.Tests.{eqb-true, eqb-false}
 use Rattle.calculus.specs.Term.{Term, var, lam, app, nodes, height}
 use Rattle.calculus.specs.Queries.{max-free}
 use Rattle.calculus.specs.Traits.{NotLam, var-not-lam, app-not-lam}
-use Rattle.nodes.specs.Words.{packed, lowered, settled, kind-in, nodes-in, height-in, free-in, normal-in}
+use Rattle.nodes.specs.Packing.{packed, lowered, settled, kind-in, nodes-in, height-in, free-in, normal-in}
 use Rattle.nodes.specs.Store.{Says, Normal, Holds, Same, word, link, kind, variable, abstraction, application}
 use Rattle.nodes.proofs.Keeping.{holds-kept}
 

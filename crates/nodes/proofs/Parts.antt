@@ -4,7 +4,7 @@ use mathlib.Core.Path.{_≡_, refl, sym, ap}
 use mathlib.Core.List.{List}
 use native.Mathlib.Omega.{arith}
 use Rattle.calculus.specs.Term.{Term, var, lam, app}
-use Rattle.nodes.specs.Words.{kind-in}
+use Rattle.nodes.specs.Packing.{kind-in}
 use Rattle.nodes.specs.Store.{Holds, word, link, kind}
 
 module _ (xs : List ℕ) (n : ℕ) where

@@ -8,7 +8,7 @@ use Rattle.calculus.specs.Term.{Term}
 use Rattle.calculus.specs.Bytes.{digits, encode}
 use Rattle.calculus.proofs.Sizes.{size, length-encode}
 use Rattle.calculus.proofs.Putting.{Puts, Leaves, all-left, put-on, none-left, leaves-length}
-use Rattle.nodes.specs.Words.{kind-in}
+use Rattle.nodes.specs.Packing.{kind-in}
 use Rattle.nodes.specs.Store.{Holds, word, link}
 use Rattle.nodes.specs.Coded.{Savable, Saves}
 use Rattle.nodes.proofs.Parts.{HeldAbstraction, HeldApplication}

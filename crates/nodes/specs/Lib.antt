@@ -1,4 +1,4 @@
 -- What the numbers of a room say, and which node is which term.
-pub mod Words
+pub mod Packing
 pub mod Store
 pub mod Coded

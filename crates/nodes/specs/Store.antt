@@ -6,7 +6,7 @@ use lib.ListN.{length, getD}
 use Rattle.calculus.specs.Term.{Term, var, lam, app, nodes, height}
 use Rattle.calculus.specs.Queries.{max-free}
 use Rattle.calculus.specs.Traits.{NotLam}
-use Rattle.nodes.specs.Words.{kind-in, nodes-in, height-in, free-in, normal-in}
+use Rattle.nodes.specs.Packing.{kind-in, nodes-in, height-in, free-in, normal-in}
 
 -- a node's two numbers
 abbrev pub word : List ℕ → ℕ → ℕ

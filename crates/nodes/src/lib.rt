@@ -1,14 +1,16 @@
 // Numbered nodes in lent room, two numbers each: how they are made, loaded from coded bytes, saved to them and cleared.
 use calculus::ROOM_PER_NODE;
 use term::Head;
+use term::larger;
 ghost use mathlib.Core.Path.{_≡_};
 ghost use Prim.Native.Nat.{_+_, _*_, _/_, _%_, _≤_, _<_, max};
 ghost use lib.ListN.{length, set};
 ghost use Rattle.calculus.specs.Term.{Term, var, lam, app};
+ghost use Rattle.calculus.specs.Bounds.{most-nodes, room-per-node};
 ghost use Rattle.calculus.specs.Bytes.{digits};
 ghost use Rattle.calculus.specs.Outcomes.{cleared};
 ghost use Rattle.calculus.proofs.Putting.{Puts};
-ghost use Rattle.nodes.specs.Words.{packed, lowered, settled, kind-in, nodes-in, height-in, free-in, normal-in};
+ghost use Rattle.nodes.specs.Packing.{packed, lowered, settled, kind-in, nodes-in, height-in, free-in, normal-in};
 ghost use Rattle.nodes.specs.Store.{Holds, Same, word};
 ghost use Rattle.nodes.specs.Coded.{Loadable, Loads, Savable, Saves};
 
@@ -80,12 +82,6 @@ fn put(room: &mut [u64], used: usize, w: u64, x: u64) -> usize
     room[2 * used] = w;
     room[2 * used + 1] = x;
     used + 1
-}
-
-fn larger(a: u64, b: u64) -> u64
-    ensures { λ r. ⌜ r ≡ max a b ⌝ }
-{
-    if a < b { b } else { a }
 }
 
 fn pack(kind: u64, nodes: u64, height: u64, free: u64, normal: u64) -> u64
@@ -252,7 +248,7 @@ pub fn save(room: &[u64], node: usize, out: &mut [u8], at: usize) -> usize
 
 // The first numbers of the room, eight for each node of a cap, become zero.
 pub fn clear(room: &mut [u64], cap: usize)
-    requires { ⌜ (cap ≤ 65536) × (8 * cap ≤ length (now room)) ⌝ }
+    requires { ⌜ (cap ≤ most-nodes) × (room-per-node * cap ≤ length (now room)) ⌝ }
     ensures { λ r. ⌜ now (room .exit) ≡ cleared cap (now (room .entry)) ⌝ }
 {
     let mut at: usize = 0;

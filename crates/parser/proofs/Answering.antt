@@ -24,7 +24,8 @@ use Rattle.words.specs.Places.{Clean, remains}
 use Rattle.words.specs.Judging.{Judges, is-fine, is-refused}
 use Rattle.words.specs.declared.Cursor.{Cursor}
 use Rattle.words.specs.declared.Judged.the-variants as judged
-use Rattle.words.proofs.Ahead.{words-at, ahead-start}
+use Rattle.words.specs.Ahead.{words-at}
+use Rattle.words.proofs.Ahead.{ahead-start}
 use Rattle.parser.specs.Answers.{parsed-told}
 use Rattle.parser.specs.Opens.{opens}
 use Rattle.parser.specs.States.{State, reading, parsed-on, go, ended}

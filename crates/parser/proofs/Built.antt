@@ -7,7 +7,7 @@ use native.Mathlib.Omega.{arith}
 use lib.ListN.{length}
 use Rattle.calculus.specs.Term.{Term, var, lam, app}
 use Rattle.calculus.specs.Bounds.{most-nodes, most-height, most-text}
-use Rattle.nodes.specs.Words.{nodes-in, height-in}
+use Rattle.nodes.specs.Packing.{nodes-in, height-in}
 use Rattle.nodes.specs.Store.{Holds, Same, word}
 use Rattle.nodes.proofs.Keeping.{same-refl, same-then, says}
 use Rattle.parser.specs.States.{State, reading, beside, under}

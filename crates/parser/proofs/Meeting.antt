@@ -17,9 +17,10 @@ use Rattle.words.specs.Places.{Clean, Placed, Inside, remains, name-of}
 use Rattle.words.specs.declared.Cursor.{Cursor}
 use Rattle.words.specs.declared.Name.{Name}
 use Rattle.words.proofs.Remaining.{remains-end}
-use Rattle.words.proofs.Ahead.{words-at, ahead-word, ahead-end, ahead-invalid}
+use Rattle.words.specs.Ahead.{words-at}
+use Rattle.words.proofs.Ahead.{ahead-word, ahead-end, ahead-invalid}
 use Rattle.parser.specs.Opens.{packed, place-of, opens, found}
-use Rattle.parser.specs.Tokens.{words-on, list-of, word-of, Valid, Step}
+use Rattle.parser.specs.Tokens.{words-on, list-of, word-of, Valid, Onward}
 use Rattle.parser.specs.Tokens.{MetIndex, MetOpening, MetClosing, MetEnd, MetUndefined}
 use Rattle.parser.proofs.Going.{goes-number, goes-name, goes-undefined}
 use Rattle.parser.proofs.Openings.{past-group, is-binder, past-binder, place-packed, open-packed}
@@ -116,7 +117,7 @@ never-invalid {n} {s} {at} {after} valid clean placed e =
 
 step-to : {n : Notation} {s : List ℕ} {here after : Cursor} → Valid n s (here .at) → Placed s after
     → here .at ≤ after .at
-    → (w : Word) → next n (remains s (here .at)) ≡ word w (remains s (after .at)) → Step n s here after
+    → (w : Word) → next n (remains s (here .at)) ≡ word w (remains s (after .at)) → Onward n s here after
 step-to {after = after} valid placed forward w e =
     record { placed = placed; valid = valid-after valid (after .at) w e; forward = forward }
 

@@ -18,7 +18,7 @@ use Rattle.nodes.specs.Store.{Same}
 use Rattle.nodes.proofs.Keeping.{same-refl, same-then}
 use Rattle.parser.specs.Opens.{opens, Opened, Kept}
 use Rattle.parser.specs.States.{State, reading, void, beside, go, unless-void, ended}
-use Rattle.parser.specs.Tokens.{words-on, Step, MetIndex, MetClosing, MetEnd, MetUndefined}
+use Rattle.parser.specs.Tokens.{words-on, Onward, MetIndex, MetClosing, MetEnd, MetUndefined}
 use Rattle.parser.specs.Building.{Means, nothing, Roomy, Enclosable, Extends}
 use Rattle.parser.specs.Sequences.{Ready, Reaches, from-here, Comes, to-its-end, to-a-refusal, Reads}
 use Rattle.parser.specs.declared.building.Built.{Built}
@@ -68,7 +68,7 @@ module _ {n : Notation} {s names : List ℕ} {count : ℕ} {store : List ℕ} {m
   same-open = opens-kept s count (so-far .kept)
 
   -- an item was read
-  pub one-item : {names″ store″ : List ℕ} {after : Cursor} (more : Built) (inner : State) → Step n s here after
+  pub one-item : {names″ store″ : List ℕ} {after : Cursor} (more : Built) (inner : State) → Onward n s here after
       → more .used + 2 * here .at ≤ read .used + 2 * after .at → Kept names′ names″ count
       → Same store′ store″ (read .used)
       → Means store″ most base (more .used) (more .part) (beside (so-far .state) inner)
@@ -109,7 +109,8 @@ module _ {n : Notation} {s names : List ℕ} {count : ℕ} {store : List ℕ} {m
   reads-so comes = record { comes = comes; kept = so-far .kept; same = so-far .same }
 
   -- THE END
-  at-its-end : {after : Cursor} (closed : Bool) → Step n s here after → (closed ≡ false → words-on n s (after .at) ≡ [])
+  at-its-end : {after : Cursor} (closed : Bool) → Onward n s here after
+      → (closed ≡ false → words-on n s (after .at) ≡ [])
       → words-on n s (here .at) ≡ ended closed (words-on n s (after .at))
       → Comes n s (opens s names count) most from base store′ (On read after closed)
   at-its-end closed step last ahead =
@@ -175,7 +176,7 @@ module _ {n : Notation} {s names : List ℕ} {count : ℕ} {store : List ℕ} {m
     pub opened-here : Opened s names′ count
     opened-here = opened-kept (so-far .kept) (ready .opened)
 
-    pub ready-inside : {after : Cursor} → Step n s here after → Ready n s names′ count store′ most after (read .used)
+    pub ready-inside : {after : Cursor} → Onward n s here after → Ready n s names′ count store′ most after (read .used)
     ready-inside step = record {
       clean = ready .clean;
       placed = step .placed;

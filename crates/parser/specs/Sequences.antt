@@ -19,7 +19,7 @@ use Rattle.words.specs.declared.Cursor.{Cursor}
 use Rattle.nodes.specs.Store.{Same}
 use Rattle.parser.specs.Opens.{open-of, opens, Opened, Kept}
 use Rattle.parser.specs.States.{State, reading, go, unless-void, ended}
-use Rattle.parser.specs.Tokens.{words-on, Valid, Step}
+use Rattle.parser.specs.Tokens.{words-on, Valid, Onward}
 use Rattle.parser.specs.Building.{Means, Roomy}
 use Rattle.parser.specs.declared.building.Built.{Built}
 use Rattle.parser.specs.declared.sequences.Went.{Went}
@@ -38,7 +38,7 @@ pub record Ready (n : Notation) (s names : List ℕ) (count : ℕ) (store : List
 -- a place that was reached: what was read there stands for a state, and at most two nodes were read for each byte
 pub record Reaches (n : Notation) (s : List ℕ) (cap : ℕ) (from : Cursor) (base : ℕ) (here : Cursor)
     (store : List ℕ) (read : Built) (st : State) : Type 0 where
-  pub step : Step n s from here
+  pub step : Onward n s from here
   pub spent : read .used + 2 * from .at ≤ base + 2 * here .at
   pub means : Means store cap base (read .used) (read .part) st
 

@@ -11,7 +11,7 @@ use Rattle.calculus.specs.Walk.{Open, group, bound}
 use Rattle.calculus.specs.Grammar.{Waits}
 use Rattle.words.specs.Places.{Placed, Inside}
 use Rattle.words.specs.declared.Cursor.{Cursor}
-use Rattle.words.proofs.Ahead.{words-at}
+use Rattle.words.specs.Ahead.{words-at}
 use Rattle.parser.specs.Opens.{place-of, open-of}
 use Rattle.parser.specs.States.{State, reading, beside, go}
 use Rattle.parser.specs.declared.tokens.Token.{Token}
@@ -35,7 +35,7 @@ word-of group = opening
 word-of (bound x) = binder x
 
 -- a place that is reached from another
-pub record Step (n : Notation) (s : List ℕ) (here next : Cursor) : Type 0 where
+pub record Onward (n : Notation) (s : List ℕ) (here next : Cursor) : Type 0 where
   pub placed : Placed s next
   pub valid : Valid n s (next .at)
   pub forward : here .at ≤ next .at
@@ -43,23 +43,23 @@ pub record Step (n : Notation) (s : List ℕ) (here next : Cursor) : Type 0 wher
 -- the token at a place, with so much open: how reading goes on
 module _ (n : Notation) (s : List ℕ) (os : List Open) (here : Cursor) where
   pub record MetIndex (i : ℕ) (next : Cursor) : Type 0 where
-    pub step : Step n s here next
+    pub step : Onward n s here next
     pub moved : here .at < next .at
     pub goes : (st : State) (ps : List Waits) → go os (words-on n s (here .at)) st ps
         ≡ go os (words-on n s (next .at)) (beside st (reading (some (var i)))) ps
 
   pub record MetOpening (w : ℕ) (next : Cursor) : Type 0 where
-    pub step : Step n s here next
+    pub step : Onward n s here next
     pub moved : here .at < next .at
     pub inside : Inside s (place-of w)
     pub ahead : words-on n s (here .at) ≡ word-of (open-of s w) ∷ words-on n s (next .at)
 
   pub record MetClosing (next : Cursor) : Type 0 where
-    pub step : Step n s here next
+    pub step : Onward n s here next
     pub ahead : words-on n s (here .at) ≡ closing ∷ words-on n s (next .at)
 
   pub record MetEnd (next : Cursor) : Type 0 where
-    pub step : Step n s here next
+    pub step : Onward n s here next
     pub ahead : words-on n s (here .at) ≡ []
     pub last : words-on n s (next .at) ≡ []
 

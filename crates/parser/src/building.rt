@@ -1,7 +1,8 @@
 // What a sequence has read so far, and the nodes it is built of while the term may still be within the bounds.
 use calculus::MOST_HEIGHT;
+use term::larger;
 ghost use mathlib.Core.Path.{_≡_};
-ghost use Prim.Native.Nat.{_*_, _≤_, max};
+ghost use Prim.Native.Nat.{_*_, _≤_};
 ghost use Rattle.calculus.specs.Bounds.{most-text};
 ghost use Rattle.parser.specs.Building.{Roomy, Makes, Enclosable, Encloses, Applicable, Applies};
 ghost use Rattle.parser.specs.Building.{Joinable, Joins, Extends, JoinsUnder};
@@ -23,12 +24,6 @@ pub(crate) enum Part {
 pub(crate) struct Built {
     pub(crate) part: Part,
     pub(crate) used: usize,
-}
-
-fn larger(a: u64, b: u64) -> u64
-    ensures { λ r. ⌜ r ≡ max a b ⌝ }
-{
-    if a < b { b } else { a }
 }
 
 fn variable(store: &mut [u64], cap: usize, used: usize, index: u64) -> Built

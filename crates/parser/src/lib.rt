@@ -7,6 +7,7 @@ use building::Built;
 use building::Part;
 use calculus::MOST_HEIGHT;
 use calculus::MOST_NODES;
+use calculus::MOST_OPEN;
 use calculus::OUTPUT_PER_NODE;
 use calculus::ROOM_PER_NODE;
 use sequences::Went;
@@ -62,7 +63,7 @@ fn build(notation: Notation, cap: usize, text: &[u8], out: &mut [u8], store: &mu
     ensures { λ r. ⌜ Works (go [] (words-on (notation-of notation) (now (text .entry)) 0) (reading none) []
         then within cap) (now (out .entry)) (now (store .entry)) r (now (out .exit)) (now (store .exit)) ⌝ }
 {
-    let mut names = [0u64; 512];
+    let mut names = [0u64; MOST_OPEN];
     let start = Cursor { at: 0, chars: 0 };
     match sequence(text, notation, &mut names, 0, store, cap, start, 0) {
         Went::Stopped(why) => Parsed::Refused(why),

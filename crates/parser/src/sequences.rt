@@ -6,6 +6,7 @@ use crate::building::with_abstraction;
 use crate::building::with_variable;
 use crate::tokens::Token;
 use crate::tokens::token_at;
+use calculus::MOST_OPEN;
 use term::Notation;
 use term::Refusal;
 use words::Cursor;
@@ -15,9 +16,6 @@ ghost use Rattle.words.specs.Places.{Inside};
 ghost use Rattle.parser.specs.Opens.{place-of};
 ghost use Rattle.parser.specs.Sequences.{Ready, Reads, Groups};
 ghost use Rattle.parser.specs.declared.sequences.Went.the-variants.{On};
-
-// Parentheses and binders open at once.
-const MOST_OPEN: usize = 512;
 
 // What was read up to a place, and whether a `)` closed it there; or why a token is refused.
 pub(crate) enum Went {
@@ -29,6 +27,7 @@ pub(crate) enum Went {
     Stopped(Refusal),
 }
 
+// Where a sequence came to.
 fn came(read: Built, here: Cursor, closed: bool) -> Went
     ensures { λ r. ⌜ r ≡ On read here closed ⌝ }
 {
@@ -47,8 +46,8 @@ pub(crate) fn sequence(
     base: usize,
 ) -> Went
     requires { ⌜ Ready (notation-of notation) (now text) (now names) count (now store) cap from base ⌝ }
-    ensures { λ r. ⌜ Reads (notation-of notation) (now (text .entry)) (now (names .entry)) count (now (store .entry)) cap
-        from base r (now (names .exit)) (now (store .exit)) ⌝ }
+    ensures { λ r. ⌜ Reads (notation-of notation) (now (text .entry)) (now (names .entry)) count
+        (now (store .entry)) cap from base r (now (names .exit)) (now (store .exit)) ⌝ }
 {
     let mut here = from;
     let mut read = Built {

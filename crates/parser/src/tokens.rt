@@ -72,8 +72,8 @@ pub(crate) fn token_at(
 ) -> Token
     requires { ⌜ Clean (now text) × Placed (now text) here × Valid (notation-of notation) (now text) (here .at)
         × Opened (now text) (now names) count ⌝ }
-    ensures { λ r. ⌜ Meets (notation-of notation) (now (text .entry)) (opens (now (text .entry)) (now (names .entry)) count)
-        here r ⌝ }
+    ensures { λ r. ⌜ Meets (notation-of notation) (now (text .entry))
+        (opens (now (text .entry)) (now (names .entry)) count) here r ⌝ }
 {
     let step = here.next(text, notation);
     let next = step.next;

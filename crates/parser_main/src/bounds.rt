@@ -74,9 +74,9 @@ pub(crate) fn nesting_first() {
     dbr(b"512 times (, then 1)(, ", 1000, b"(", 512, b"1)(");
     dbr(b"512 times (, then 1)((, ", 1000, b"(", 512, b"1)((");
     dbr(b"512 times \\, then 1)(, ", 1000, b"\\", 512, b"1)(");
-    dbr(b"512 times \\, cap 1, ", 1, b"\\", 512, b"");
-    dbr(b"513 times \\, cap 1, ", 1, b"\\", 513, b"");
-    cla(b"512 times \\a., cap 1, ", 1, b"\\a.", 512, b"");
+    dbr(b"512 times \\, ", 1, b"\\", 512, b"");
+    dbr(b"513 times \\, ", 1, b"\\", 513, b"");
+    cla(b"512 times \\a., ", 1, b"\\a.", 512, b"");
     dbr(b"600 times 1, then (), ", 1000, b"1", 600, b"()");
 }
 

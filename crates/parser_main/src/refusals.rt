@@ -1,4 +1,4 @@
-// Texts, caps and lengths for each of the refusals 1 to 6 and 8, and texts for which two of them could be given.
+// Texts, caps and lengths for the refusals 1, 2, 4, 5, 6 and 8, and texts for which two of them could be given.
 use crate::showing::both;
 use crate::showing::cla;
 use crate::showing::dbr;
@@ -59,127 +59,71 @@ pub(crate) fn damaged() {
 // 5 in De Bruijn's notation: the place is in characters.
 pub(crate) fn invalid() {
     say(b"-- 5 in de bruijn's notation\n");
-    dbr(b"g");
-    dbr(b"\xce\xbb\xce\xbb1g");
-    dbr(b"\xce\xbb\xce\xbb~");
-    dbr(b"]");
-    dbr(b"1.");
-    dbr(b"[");
-    dbr(b"\xce\xbb[1");
-    dbr(b"\xce\xbb[1 ]");
-    dbr(b"[G]");
-    dbr(b"[[1]]");
-    dbr(b"[\xce\xbb1]");
+    dbr(
+        b"g|\xce\xbb\xce\xbb1g|\xce\xbb\xce\xbb~|]|1.|[|\xce\xbb[1|\xce\xbb[1 ]|[G]|[[1]]|[\xce\xbb1]",
+    );
 }
 
 // Indices in brackets up to the greatest, and beyond.
 pub(crate) fn indices() {
-    dbr(b"[1\xce\xbb]");
-    dbr(b"[FFFFFFFFFFFFFFFF]");
-    dbr(b"[10000000000000000]");
-    dbr(b"[0000000000000000FFFFFFFFFFFFFFFF]");
-    dbr(b"[FFFFFFFFFFFFFFFF0]");
-    dbr(b"[FFFFFFFFFFFFFFFFG]");
-    dbr(b"[FFFFFFFFFFFFFFFF");
-    dbr(b"[1000000000000000F]");
-    dbr(b"[fedcba9876543210]");
+    dbr(b"[1\xce\xbb]|[FFFFFFFFFFFFFFFF]|[10000000000000000]|[0000000000000000FFFFFFFFFFFFFFFF]");
+    dbr(
+        b"[FFFFFFFFFFFFFFFF0]|[FFFFFFFFFFFFFFFFG]|[FFFFFFFFFFFFFFFF|[1000000000000000F]|[fedcba9876543210]",
+    );
     dbr(b"0123456789abcdefABCDEF");
 }
 
 // 5 in classic notation.
 pub(crate) fn invalid_classic() {
     say(b"-- 5 in classic notation\n");
-    cla(b"1");
-    cla(b".");
-    cla(b"[");
-    cla(b"\\1.a");
-    cla(b"\\a1.a1");
-    cla(b"\\a1b2.a1b2");
-    cla(b"\\a b.a");
-    cla(b"\\a(.a");
+    cla(b"1|.|[|\\1.a|\\a1.a1|\\a1b2.a1b2|\\a b.a|\\a(.a");
 }
 
 pub(crate) fn binder_names() {
-    cla(b"\\a\\b.a");
-    cla(b"\\a-b.a");
-    cla(b"\\\xce\xbb.\xce\xbb");
-    cla(b"\xce\xbb\xce\xbba.\xce\xbba");
-    cla(b"\\a\xce\xbb1.a\xce\xbb1");
-    cla(b"\xce\xbba.\xce\xbbb.1");
-    cla(b"\xce\xbba.a !");
-    cla(b"\\a.a_a");
-    cla(b"\\.1");
+    cla(
+        b"\\a\\b.a|\\a-b.a|\\\xce\xbb.\xce\xbb|\xce\xbb\xce\xbba.\xce\xbba|\\a\xce\xbb1.a\xce\xbb1",
+    );
+    cla(b"\xce\xbba.\xce\xbbb.1|\xce\xbba.a !|\\a.a_a|\\.1");
 }
 
 // 6, and names that run on.
 pub(crate) fn names() {
     say(b"-- names and 6\n");
-    cla(b"a");
-    cla(b"\\a.b");
-    cla(b"(\\a.a) a");
-    cla(b"\\a.(\\b.a b) b");
-    cla(b"\\a.\\a.a");
-    cla(b"\\a.\\b.\\a.b a");
-    cla(b"\\a.\\b.\\c.(\\d.a) (\\e.b) c");
-    cla(b"\\a.a.b");
-    cla(b"\\a.a\\b.b");
-    cla(b"\\a.aa");
+    cla(
+        b"a|\\a.b|(\\a.a) a|\\a.(\\b.a b) b|\\a.\\a.a|\\a.\\b.\\a.b a|\\a.\\b.\\c.(\\d.a) (\\e.b) c|\\a.a.b",
+    );
+    cla(b"\\a.a\\b.b|\\a.aa");
 }
 
 pub(crate) fn binders() {
-    cla(b"\\aa.a");
-    cla(b"\\a.(a)a(a)");
-    cla(b"\\.\\a.a");
-    cla(b"\\a.\\.a");
-    cla(b"\\A.\\a.A a");
-    cla(b"\\a.\xce\xbba.a");
-    cla(b"\\a");
-    cla(b"\\");
-    cla(b"\\a.a \\b.a b");
-    cla(b"\\a.a (\\b.a b) a");
+    cla(
+        b"\\aa.a|\\a.(a)a(a)|\\.\\a.a|\\a.\\.a|\\A.\\a.A a|\\a.\xce\xbba.a|\\a|\\|\\a.a \\b.a b|\\a.a (\\b.a b) a",
+    );
 }
 
 // 8, and the grammar.
 pub(crate) fn empty() {
     say(b"-- 8, and the grammar\n");
     both(b"()", b"()");
-    both(b"(\\)", b"(\\.)");
+    both(b"(\\.)", b"(\\.)");
     dbr(b"(\\)");
     both(b")", b")");
     both(b"( ", b"( ");
-    dbr(b"\\");
-    dbr(b"1()");
-    dbr(b"1(\\)2");
-    dbr(b"\\()");
-    dbr(b"\\1(");
+    dbr(b"\\|1()|1(\\)2|\\()|\\1(");
 }
 
 pub(crate) fn grammar() {
-    dbr(b"((1)");
-    dbr(b"((((1))))");
-    dbr(b"1(2 3)4");
-    dbr(b"1\\2\\3 4");
-    dbr(b"(1\\2)3");
-    dbr(b"(\\1))2");
-    dbr(b"1 2(3(4 5");
-    dbr(b"1 2(3\\4 5)6)7");
+    dbr(b"((1)|((((1))))|1(2 3)4|1\\2\\3 4|(1\\2)3|(\\1))2|1 2(3(4 5|1 2(3\\4 5)6)7");
     cla(b"\\a.()");
 }
 
 // What comes first decides.
 pub(crate) fn sequence() {
     say(b"-- the sequence of refusals\n");
-    cla(b"() x");
-    cla(b"x ()");
-    dbr(b"1)()");
-    dbr(b"1)g");
-    dbr(b"1)[");
+    cla(b"() x|x ()");
+    dbr(b"1)()|1)g|1)[");
     both(b"g, CE", b"g\xce");
     both(b"CE, g", b"\xceg");
-    cla(b"\\a.a) 1");
-    cla(b"\\a.a) x");
-    cla(b"\\a.a x) 1");
-    cla(b"x 1");
-    cla(b"(\\a.a)) x (");
+    cla(b"\\a.a) 1|\\a.a) x|\\a.a x) 1|x 1|(\\a.a)) x (");
     dbr(b"()g");
 }

@@ -65,12 +65,34 @@ pub(crate) fn show(what: &[u8], notation: Notation, text: &[u8]) {
     parse_and_tell(notation, 100, text, &mut out, &mut numbers);
 }
 
-// A text that says what it is.
-pub(crate) fn dbr(text: &[u8]) {
-    show(text, Notation::DeBruijn, text);
+// Texts that say what they are, with a `|` between two.
+fn show_all(notation: Notation, texts: &[u8]) {
+    let mut at: usize = 0;
+    for _ in 0..texts.len() {
+        let end = samples::word_end(texts, at, b'|');
+        let text = samples::part(texts, at, end);
+        show(text, notation, text);
+        if texts.len() <= end {
+            return;
+        }
+        at = end + 1;
+    }
 }
 
-pub(crate) fn cla(text: &[u8]) {
+pub(crate) fn dbr(texts: &[u8]) {
+    show_all(Notation::DeBruijn, texts);
+}
+
+pub(crate) fn cla(texts: &[u8]) {
+    show_all(Notation::Classic, texts);
+}
+
+// A head and two copies of a part.
+pub(crate) fn cla_twice(head: &[u8], part: &[u8]) {
+    let mut buf = short_text();
+    let from = samples::repeat(&mut buf, 0, head, 1);
+    let end = samples::repeat(&mut buf, from, part, 2);
+    let text = samples::first(&buf, end);
     show(text, Notation::Classic, text);
 }
 

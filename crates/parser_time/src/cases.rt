@@ -4,11 +4,11 @@ use crate::copying::time_copies;
 use crate::timing::title;
 use term::Notation;
 
-const WHOLE: usize = 2097152;
+pub(crate) const WHOLE: usize = 2097152;
 
-const HALF: usize = 1048576;
+pub(crate) const HALF: usize = 1048576;
 
-const MORE: u64 = 2;
+pub(crate) const MORE: u64 = 2;
 
 // Copies of a head, then copies of a part to the end.
 fn both(what: &[u8], notation: Notation, head: &[u8], heads: usize, part: &[u8], parts: usize) {

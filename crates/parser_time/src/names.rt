@@ -1,17 +1,14 @@
 // Texts in classic notation that cost most in names, and the greatest terms.
+use crate::cases::HALF;
+use crate::cases::MORE;
+use crate::cases::WHOLE;
 use crate::copying::middle_text;
 use crate::copying::short_text;
 use crate::copying::time_copies;
 use crate::timing::title;
 use term::Notation;
 
-const WHOLE: usize = 2097152;
-
-const HALF: usize = 1048576;
-
 const QUARTER: usize = 524288;
-
-const MORE: u64 = 2;
 
 // One name to the end, and a binder and its variable that share the text.
 pub(crate) fn long() {
@@ -56,7 +53,7 @@ fn outermost(what: &[u8], letters: usize, uses: usize, whole: usize, half: usize
     time_copies(cla, bound, 1, used, uses, b"", 0, half, 0);
 }
 
-// Longer names on shorter texts: these take longest.
+// Longer names on shorter texts, which end within a name: these take longest of all.
 pub(crate) fn many() {
     outermost(b"1 letter\n", 0, HALF, WHOLE, HALF);
     outermost(b"16 letters\n", 15, 65536, HALF, QUARTER);

@@ -97,7 +97,7 @@ fn show(marks: &[u8]) {
 fn show_all(words: &[u8]) {
     let mut at: usize = 0;
     for _ in 0..words.len() {
-        let end = samples::word_end(words, at);
+        let end = samples::word_end(words, at, b' ');
         show(samples::part(words, at, end));
         if words.len() <= end {
             return;

@@ -136,11 +136,11 @@ fn copy(buf: &mut [u8], at: usize, bytes: &[u8]) -> usize {
     to
 }
 
-// Where the word that begins at a place ends: at a space, or with the bytes.
-pub fn word_end(words: &[u8], from: usize) -> usize {
+// Where the word that begins at a place ends: at a mark, or with the bytes.
+pub fn word_end(words: &[u8], from: usize, mark: u8) -> usize {
     let mut at = from;
     while at < words.len() {
-        if words[at] == b' ' {
+        if words[at] == mark {
             return at;
         }
         at += 1;

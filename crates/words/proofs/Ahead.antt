@@ -11,13 +11,9 @@ use Rattle.calculus.specs.Words.{Word, ended, word, invalid, invalid-in, on-nex
 use Rattle.calculus.specs.Reading.{Notation, next}
 use Rattle.calculus.proofs.Moves.{Moves, to-an-invalid, moves, next-shorter, words-enough}
 use Rattle.words.specs.Places.{Clean, Placed, remains, char-of, bytes-of}
+use Rattle.words.specs.Ahead.{words-at}
 use Rattle.words.specs.declared.Cursor.{Cursor}
 use Rattle.words.proofs.Remaining.{remains-end, remains-char}
-
--- the words from an offset on, in as many steps as characters
-unfoldable pub words-at : Notation → List ℕ → ℕ → Answer (List Word)
-unfolding words-from invalid-in remains
-words-at n s at = words-from (next n) (invalid-in (characters s)) (length (remains s at)) (remains s at)
 
 -- from the start of the text on
 pub ahead-start : (n : Notation) (s : List ℕ) → words-at n s 0 ≡ words (next n) (characters s)

@@ -19,7 +19,8 @@ use Rattle.words.specs.declared.Word.{Word}
 use Rattle.words.specs.declared.Word.the-variants.{End, Binder, Left, Right, Number, Named, Invalid}
 use Rattle.words.specs.declared.Judged.{Judged}
 use Rattle.words.specs.declared.Judged.the-variants.{Fine, Refused}
-use Rattle.words.proofs.Ahead.{words-at, ahead-start, ahead-word, ahead-end, ahead-invalid, invalid-inside}
+use Rattle.words.specs.Ahead.{words-at}
+use Rattle.words.proofs.Ahead.{ahead-start, ahead-word, ahead-end, ahead-invalid, invalid-inside}
 
 -- the words of the text are those ahead of the place, after some that were read
 pub record Reached (n : Notation) (s : List ℕ) (here : Cursor) : Type 0 where

@@ -3,4 +3,5 @@ pub mod Places
 pub mod Runs
 pub mod Digits
 pub mod Steps
+pub mod Ahead
 pub mod Judging

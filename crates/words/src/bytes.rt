@@ -8,18 +8,23 @@ ghost use Rattle.words.specs.Places.{char-of};
 ghost use Rattle.words.specs.Runs.{test-of};
 ghost use Rattle.words.specs.Digits.{hex-value};
 
+// The two bytes of the lambda sign.
+pub(crate) const SIGN_FIRST: u8 = 0xCE;
+
+pub(crate) const SIGN_SECOND: u8 = 0xBB;
+
 // Whether a byte is by itself a character of the domain.
 pub(crate) fn is_plain(b: u8) -> bool
     ensures { λ r. ⌜ r ≡ white b || between 33 126 b ⌝ }
 {
-    if 32 < b { b <= 126 } else { is_white(b) }
+    if b' ' < b { b <= b'~' } else { is_white(b) }
 }
 
 // The code point of the character that begins with a byte; CE begins the sign.
 pub(crate) fn code_of(b: u8) -> u64
     ensures { λ r. ⌜ r ≡ char-of b ⌝ }
 {
-    if b == 206 { 955 } else { b as u64 }
+    if b == SIGN_FIRST { 955 } else { b as u64 }
 }
 
 // What a run of characters may hold: white space, what a binder's name holds, what a name elsewhere holds.
@@ -32,19 +37,19 @@ pub(crate) enum Run {
 pub(crate) fn is_white(b: u8) -> bool
     ensures { λ r. ⌜ r ≡ white b ⌝ }
 {
-    if 32 < b {
+    if b' ' < b {
         return false;
     }
-    if b == 32 {
+    if b == b' ' {
         return true;
     }
-    if b == 9 {
+    if b == b'\t' {
         return true;
     }
-    if b == 10 {
+    if b == b'\n' {
         return true;
     }
-    b == 13
+    b == b'\r'
 }
 
 pub(crate) fn is_letter(b: u8) -> bool
@@ -81,13 +86,13 @@ pub(crate) fn may_hold(run: Run, b: u8) -> bool
             if is_figure(b) {
                 return true;
             }
-            b == 206
+            b == SIGN_FIRST
         }
         Run::Elsewhere => {
-            if b == 40 {
+            if b == b'(' {
                 return false;
             }
-            if b == 41 {
+            if b == b')' {
                 return false;
             }
             !is_white(b)

@@ -4,6 +4,7 @@ use crate::Name;
 use crate::Step;
 use crate::Word;
 use crate::bytes::Run;
+use crate::bytes::SIGN_FIRST;
 use crate::bytes::is_figure;
 use crate::bytes::is_letter;
 use crate::unnamed;
@@ -33,7 +34,7 @@ impl Cursor {
             let word = Word::Binder(Name { from, to });
             return Step { word, next: end };
         }
-        if text[to] == 46 {
+        if text[to] == b'.' {
             let word = Word::Binder(Name { from, to });
             return Step {
                 word,
@@ -57,17 +58,17 @@ impl Cursor {
         }
         let b = text[at];
         let next = self.past(text);
-        if b == 92 {
+        if b == b'\\' {
             return next.binder(text);
         }
-        if b == 206 {
+        if b == SIGN_FIRST {
             return next.binder(text);
         }
-        if b == 40 {
+        if b == b'(' {
             let word = Word::Left;
             return Step { word, next };
         }
-        if b == 41 {
+        if b == b')' {
             let word = Word::Right;
             return Step { word, next };
         }

@@ -2,6 +2,7 @@
 use crate::Cursor;
 use crate::Step;
 use crate::Word;
+use crate::bytes::SIGN_FIRST;
 use crate::bytes::hex_value;
 use crate::unnamed;
 ghost use mathlib.Core.Path.{_≡_};
@@ -10,6 +11,9 @@ ghost use lib.ListN.{length, getD};
 ghost use Rattle.calculus.specs.DeBruijn.{first-word};
 ghost use Rattle.words.specs.Places.{Clean, Placed, remains};
 ghost use Rattle.words.specs.Steps.{taken, Last, Tells};
+
+// An index above it has no room for a digit more: 2^60 - 1.
+const MOST_TO_LENGTHEN: u64 = 1152921504606846975;
 
 impl Cursor {
     // The index in the brackets that open here.
@@ -34,7 +38,7 @@ impl Cursor {
         while here.at < text.len() {
             let at = here.at;
             let b = text[at];
-            if b == 93 {
+            if b == b']' {
                 let word = Word::Number(index);
                 return Step {
                     word,
@@ -46,7 +50,7 @@ impl Cursor {
                 let word = Word::Invalid;
                 return Step { word, next: here };
             }
-            if 1152921504606846975 < index {
+            if MOST_TO_LENGTHEN < index {
                 let word = Word::Invalid;
                 return Step { word, next: here };
             }
@@ -69,23 +73,23 @@ impl Cursor {
             return Step { word, next: self };
         }
         let b = text[at];
-        if b == 91 {
+        if b == b'[' {
             return self.bracketed(text);
         }
         let next = self.past(text);
-        if b == 92 {
+        if b == b'\\' {
             let word = Word::Binder(unnamed(next.at));
             return Step { word, next };
         }
-        if b == 206 {
+        if b == SIGN_FIRST {
             let word = Word::Binder(unnamed(next.at));
             return Step { word, next };
         }
-        if b == 40 {
+        if b == b'(' {
             let word = Word::Left;
             return Step { word, next };
         }
-        if b == 41 {
+        if b == b')' {
             let word = Word::Right;
             return Step { word, next };
         }

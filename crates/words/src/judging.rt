@@ -1,7 +1,9 @@
-// The passes over a whole text: whether its characters are in the domain, whether its words are valid, and names.
+// The passes over a whole text: whether its characters are in the domain, and whether its words are valid.
 use crate::Cursor;
 use crate::Judged;
 use crate::Word;
+use crate::bytes::SIGN_FIRST;
+use crate::bytes::SIGN_SECOND;
 use crate::bytes::code_of;
 use crate::bytes::is_plain;
 use term::Notation;
@@ -29,12 +31,12 @@ pub(crate) fn scan_domain(text: &[u8]) -> Domain
     let mut at: usize = 0;
     while at < text.len() {
         let b = text[at];
-        if b == 206 {
+        if b == SIGN_FIRST {
             let second = at + 1;
             if text.len() <= second {
                 return Domain::Outside(at);
             }
-            if text[second] != 187 {
+            if text[second] != SIGN_SECOND {
                 return Domain::Outside(at);
             }
             at += 2;

@@ -5,6 +5,7 @@ mod de_bruijn;
 mod judging;
 
 use bytes::Run;
+use bytes::SIGN_FIRST;
 use bytes::may_hold;
 use calculus::MOST_TEXT;
 use judging::Domain;
@@ -66,7 +67,7 @@ impl Cursor {
         ensures { λ r. ⌜ (r ≡ past-char (now (text .entry)) self) × Placed (now (text .entry)) r ⌝ }
     {
         let at = self.at;
-        if text[at] == 206 {
+        if text[at] == SIGN_FIRST {
             Cursor {
                 at: at + 2,
                 chars: self.chars + 1,

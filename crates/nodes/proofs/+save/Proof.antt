@@ -7,7 +7,7 @@ use borrow.Author.Needs.{needs}
 use borrow.Fn.Kinds.{In}
 use borrow.Fn.PlainCycle.{Measures, is, falls, and}
 use Rattle.calculus.proofs.Putting.{puts-length}
-use Rattle.nodes.specs.Words.{kind-in}
+use Rattle.nodes.specs.Packing.{kind-in}
 use Rattle.nodes.specs.Store.{word}
 use Rattle.nodes.proofs.Saving.{On, Places, at-first, inside-here, variable-asks, at-variable}
 use Rattle.nodes.proofs.Saving.{abstraction-asks, body-below, at-abstraction}

@@ -2,7 +2,7 @@
 use mathlib.Core.Path.{sym, _∙_}
 use borrow.Author.Tests.{eq-eqb, ne-eqb}
 use borrow.Author.Needs.{needs}
-use Rattle.nodes.specs.Words.{kind-in, normal-in}
+use Rattle.nodes.specs.Packing.{kind-in, normal-in}
 use Rattle.nodes.proofs.settle.Statement.{statement}
 use Rattle.nodes.proofs.settle.Tie as tie
 

@@ -6,10 +6,10 @@ use Rattle.samples.proofs.word_end.Statement.{statement}
 use Rattle.samples.proofs.word_end.Tie as tie
 
 abbrev Inv-loop : tie.InvT-loop
-Inv-loop words from at₀ at = from ≤ at
+Inv-loop words from mark at₀ at = from ≤ at
 
 abbrev μ-loop : tie.MeasureT-loop
-μ-loop words from at₀ at = length words - at
+μ-loop words from mark at₀ at = length words - at
 
 pub word-end-spec : {M : Type 1} → statement M
 word-end-spec =

@@ -169,7 +169,8 @@ module _ (t : ℕ) where
       let met = rw (at-w .w .given .1) at (at-token-at .token-at .ensures) in
       nested-stops (at-loop .loop .inv) met (c .before .went .given .1) (at-group .group .ensures)
 
-  with-abstraction-requires : lts.Need-with-abstraction-requires (claims t) (sequence-at t) sequence.Post Inv-loop μ-loop
+  with-abstraction-requires :
+      lts.Need-with-abstraction-requires (claims t) (sequence-at t) sequence.Post Inv-loop μ-loop
   with-abstraction-requires c κs =
       let at-went2 = c .before .before .before in
       let at-group = at-went2 .before .before .before .before .before .before in

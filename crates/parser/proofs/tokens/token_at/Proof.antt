@@ -1,7 +1,7 @@
 -- `parser::tokens::token_at` meets its contract: what each word meets is a law of `Meeting`.
 use borrow.Author.Needs.{needs}
-use Rattle.parser.proofs.Meeting.{meets-number, meets-name, meets-undefined, meets-left, meets-binder, meets-right}
-use Rattle.parser.proofs.Meeting.{meets-end, never-invalid, place-fits}
+use Rattle.parser.proofs.Meeting.{meets-number, meets-name, meets-undefined, meets-left, meets-binder}
+use Rattle.parser.proofs.Meeting.{meets-right, meets-end, never-invalid, place-fits}
 use Rattle.parser.proofs.tokens.token_at.Statement.{statement}
 use Rattle.parser.proofs.tokens.token_at.Tie as tie
 
