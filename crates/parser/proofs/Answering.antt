@@ -42,11 +42,11 @@ abbrev start : Cursor
 start = record { at = 0; chars = 0 }
 
 -- THE WHOLE TEXT is one sequence, with nothing open
-pub ready-first : {n : Notation} {s : List ℕ} {most : ℕ} {out store : List ℕ} (names : List ℕ)
-    → length names ≡ most-open
-    → Lent most out store → Clean s → Valid n s 0 → Ready n s names 0 store most start 0
+pub ready-first : {n : Notation} {s : List ℕ} {most : ℕ} {out store : List ℕ} (stack : List ℕ)
+    → length stack ≡ most-open
+    → Lent most out store → Clean s → Valid n s 0 → Ready n s stack 0 store most start 0
 unfolding remains
-ready-first names long lent clean valid = record {
+ready-first stack long lent clean valid = record {
   clean = clean;
   placed = record { inside = omega arith; fewer = omega arith; counted = omega arith };
   valid = valid;
@@ -67,8 +67,8 @@ refused-stores : {answer : Answer Term} (e : Refusal) (out : List ℕ) → answe
 unfolding parsed-told
 refused-stores e out is = rw is
 
-module _ {n : Notation} {s names : List ℕ} {most : ℕ} {store : List ℕ} {r : Went} {names′ store′ : List ℕ}
-    (reads : Reads n s names 0 store most start 0 r names′ store′) where
+module _ {n : Notation} {s stack : List ℕ} {most : ℕ} {store : List ℕ} {r : Went} {stack′ store′ : List ℕ}
+    (reads : Reads n s stack 0 store most start 0 r stack′ store′) where
   comes-to : Comes n s [] most start 0 store′ r
   unfolding opens
   comes-to = reads .comes

@@ -26,22 +26,22 @@ use Rattle.parser.proofs.Going.{goes-number, goes-name, goes-undefined}
 use Rattle.parser.proofs.Openings.{past-group, is-binder, past-binder, place-packed, open-packed}
 
 -- LOOKING UP A NAME, with the last of what is open already passed
-pub record Looks (s names x : List ℕ) (count left index : ℕ) : Type 0 where
+pub record Looks (s stack x : List ℕ) (count left index : ℕ) : Type 0 where
   pub few : left ≤ count
   pub low : index + left ≤ count + 1
   pub some-index : 0 < index
-  pub looks : resolved x 1 (opens s names count) ≡ resolved x index (opens s names left)
+  pub looks : resolved x 1 (opens s stack count) ≡ resolved x index (opens s stack left)
 
-pub looks-first : (s names x : List ℕ) (count : ℕ) → Looks s names x count count 1
-looks-first s names x count = record { few = omega arith; low = omega arith; some-index = omega arith; looks = refl }
+pub looks-first : (s stack x : List ℕ) (count : ℕ) → Looks s stack x count count 1
+looks-first s stack x count = record { few = omega arith; low = omega arith; some-index = omega arith; looks = refl }
 
 found-some : (i : ℕ) → 0 < i → found i ≡ some i
 found-some zero h = absurd (omega arith)
 found-some (suc i) h = refl
 
-module _ {s names x : List ℕ} {count left index : ℕ} (so-far : Looks s names x count left index) where
+module _ {s stack x : List ℕ} {count left index : ℕ} (so-far : Looks s stack x count left index) where
   -- nothing is left
-  pub looked-all : left ≤ 0 → found 0 ≡ resolved x 1 (opens s names count)
+  pub looked-all : left ≤ 0 → found 0 ≡ resolved x 1 (opens s stack count)
   unfolding opens resolved
   looked-all none-left = let e : left ≡ 0 = omega arith in sym (so-far .looks ∙ rw e)
 
@@ -49,31 +49,31 @@ module _ {s names x : List ℕ} {count left index : ℕ} (so-far : Looks s names
     one-left : suc (left - 1) ≡ left
     one-left = omega arith
 
-    pub looks-past-group : getD names (left - 1) 0 ≡ 0 → Looks s names x count (left - 1) index
+    pub looks-past-group : getD stack (left - 1) 0 ≡ 0 → Looks s stack x count (left - 1) index
     looks-past-group e = record {
       few = omega (arith, so-far .few);
       low = omega (arith, so-far .low);
       some-index = so-far .some-index;
-      looks = so-far .looks ∙ rw one-left at (past-group s names x index (left - 1) e);
+      looks = so-far .looks ∙ rw one-left at (past-group s stack x index (left - 1) e);
     }
 
-    module _ (binds : getD names (left - 1) 0 ≡ 0 → ⊥) where
-      pub looks-past-binder : same-text x (name-of s (place-of (getD names (left - 1) 0))) ≡ false
-          → Looks s names x count (left - 1) (index + 1)
+    module _ (binds : getD stack (left - 1) 0 ≡ 0 → ⊥) where
+      pub looks-past-binder : same-text x (name-of s (place-of (getD stack (left - 1) 0))) ≡ false
+          → Looks s stack x count (left - 1) (index + 1)
       looks-past-binder e =
           let next-index : suc index ≡ index + 1 = omega arith in
           record {
             few = omega (arith, so-far .few);
             low = omega (arith, so-far .low);
             some-index = omega arith;
-            looks = so-far .looks ∙ rw (one-left, next-index) at (past-binder s names x index (left - 1) binds e);
+            looks = so-far .looks ∙ rw (one-left, next-index) at (past-binder s stack x index (left - 1) binds e);
           }
 
-      pub looked-up : same-text x (name-of s (place-of (getD names (left - 1) 0))) ≡ true
-          → found index ≡ resolved x 1 (opens s names count)
+      pub looked-up : same-text x (name-of s (place-of (getD stack (left - 1) 0))) ≡ true
+          → found index ≡ resolved x 1 (opens s stack count)
       looked-up e =
           found-some index (so-far .some-index)
-          ∙ sym (so-far .looks ∙ rw one-left at (is-binder s names x index (left - 1) binds e))
+          ∙ sym (so-far .looks ∙ rw one-left at (is-binder s stack x index (left - 1) binds e))
 
 -- THE WORDS AHEAD of a place whose words are valid
 after-word : {w : Word} (here after : Answer (List Word)) → here ≡ (after then (λ ws. given (w ∷ ws)))

@@ -54,61 +54,61 @@ inside-stops {n} {s} {os} {w = w} {after = after} {e = e} long (one-more few (to
     goes-refused (open-of s w) os (words-on n s (after .at)) st ps (refusal-of e) (omega arith) goes
 
 -- ONE MORE OPEN, or 7
-module _ {n : Notation} {s names : List ℕ} {count : ℕ} {store : List ℕ} {most : ℕ} {from : Cursor} {base : ℕ}
-    (ready : Ready n s names count store most from base) where
+module _ {n : Notation} {s stack : List ℕ} {count : ℕ} {store : List ℕ} {most : ℕ} {from : Cursor} {base : ℕ}
+    (ready : Ready n s stack count store most from base) where
   pub too-many-open : {opening : ℕ} → most-open ≤ count
-      → Groups n s names count opening store most from base (Stopped TooHigh) names store
-  too-many-open deep = record { enters = no-more deep; kept = kept-refl names count; same = same-refl store base }
+      → Groups n s stack count opening store most from base (Stopped TooHigh) stack store
+  too-many-open deep = record { enters = no-more deep; kept = kept-refl stack count; same = same-refl store base }
 
   module _ (few : count < most-open) where
-    in-names : count < length names
-    in-names = omega (arith, ready .opened .as-long)
+    in-stack : count < length stack
+    in-stack = omega (arith, ready .opened .as-long)
 
     pub ready-opened : (opening : ℕ) → Inside s (place-of opening)
-        → Ready n s (set names count opening) (count + 1) store most from base
+        → Ready n s (set stack count opening) (count + 1) store most from base
     ready-opened opening inside = record {
       clean = ready .clean;
       placed = ready .placed;
       valid = ready .valid;
-      opened = opened-more s names count opening in-names (ready .opened) few inside;
+      opened = opened-more s stack count opening in-stack (ready .opened) few inside;
       roomy = ready .roomy;
       few = ready .few;
     }
 
-    pub group-enters : (opening : ℕ) {r : Went} {names′ store′ : List ℕ}
-        → Reads n s (set names count opening) (count + 1) store most from base r names′ store′
-        → Groups n s names count opening store most from base r names′ store′
+    pub group-enters : (opening : ℕ) {r : Went} {stack′ store′ : List ℕ}
+        → Reads n s (set stack count opening) (count + 1) store most from base r stack′ store′
+        → Groups n s stack count opening store most from base r stack′ store′
     group-enters opening reads = record {
-      enters = one-more few (rw (add-one, opens-more s names count opening in-names) at (reads .comes));
-      kept = kept-then (omega arith) (kept-set names count opening) (reads .kept);
+      enters = one-more few (rw (add-one, opens-more s stack count opening in-stack) at (reads .comes));
+      kept = kept-then (omega arith) (kept-set stack count opening) (reads .kept);
       same = reads .same;
     }
 
-module _ {n : Notation} {s names : List ℕ} {count : ℕ} {store : List ℕ} {most : ℕ} {from : Cursor} {base : ℕ}
-    {names′ store′ : List ℕ} {here : Cursor} {read : Built}
-    (so-far : SoFar n s names count store most from base names′ store′ here read)
-    {after : Cursor} {w : ℕ} (met : MetOpening n s (opens s names′ count) here w after) {names″ store″ : List ℕ} where
+module _ {n : Notation} {s stack : List ℕ} {count : ℕ} {store : List ℕ} {most : ℕ} {from : Cursor} {base : ℕ}
+    {stack′ store′ : List ℕ} {here : Cursor} {read : Built}
+    (so-far : SoFar n s stack count store most from base stack′ store′ here read)
+    {after : Cursor} {w : ℕ} (met : MetOpening n s (opens s stack′ count) here w after) {stack″ store″ : List ℕ} where
   -- 6 or 7 inside, or 7 here
   pub nested-stops : {r : Went} {e : Refusal} → r ≡ Stopped e
-      → Groups n s names′ count w store′ most after (read .used) r names″ store″
-      → Reads n s names count store most from base (Stopped e) names″ store″
+      → Groups n s stack′ count w store′ most after (read .used) r stack″ store″
+      → Reads n s stack count store most from base (Stopped e) stack″ store″
   nested-stops {e = e} is groups = record {
     comes = to-a-refusal (stops so-far (refusal-of e)
         (λ st ps. rw (met .ahead)
-        (inside-stops (opens-length s names count) (rw (is, same-open so-far) at (groups .enters)) st ps)));
+        (inside-stops (opens-length s stack count) (rw (is, same-open so-far) at (groups .enters)) st ps)));
     kept = kept-then (omega arith) (so-far .kept) (groups .kept);
     same = same-then (means-grows (so-far .reaches .means)) (so-far .same) (groups .same);
   }
 
   module _ {r : Went} {inner : Built} {last : Cursor} {closed : Bool} (is : r ≡ On inner last closed)
-      (groups : Groups n s names′ count w store′ most after (read .used) r names″ store″) where
-    inside : Ends n s (open-of s w ∷ opens s names count) most after (read .used) store″ inner last closed
+      (groups : Groups n s stack′ count w store′ most after (read .used) r stack″ store″) where
+    inside : Ends n s (open-of s w ∷ opens s stack count) most after (read .used) store″ inner last closed
     inside = rw (same-open so-far) at (ends-of (rw is at (groups .enters)))
 
-    few-there : length (opens s names count) < most-open
-    few-there = omega (arith, opens-length s names count, few-open (rw is at (groups .enters)))
+    few-there : length (opens s stack count) < most-open
+    few-there = omega (arith, opens-length s stack count, few-open (rw is at (groups .enters)))
 
-    pub last-few : Ready n s names count store most from base → inner .used ≤ 2 * most-text
+    pub last-few : Ready n s stack count store most from base → inner .used ≤ 2 * most-text
     last-few ready =
         omega (
           arith,
@@ -123,7 +123,7 @@ module _ {n : Notation} {s names : List ℕ} {count : ℕ} {store : List ℕ} {m
     went-on =
         (omega (arith, met .moved, inside .reaches .step .forward), inside .reaches .step .placed .inside)
 
-    pub roomy-after : Ready n s names count store most from base → Roomy store″ most (inner .used)
+    pub roomy-after : Ready n s stack count store most from base → Roomy store″ most (inner .used)
     roomy-after ready = record {
       in-bounds = ready .roomy .in-bounds;
       room = omega (arith, ready .roomy .room, so-far .same .as-long, groups .same .as-long);
@@ -141,7 +141,7 @@ module _ {n : Notation} {s names : List ℕ} {count : ℕ} {store : List ℕ} {m
 
     -- A GROUP: its sequence is the next item
     pub group-read : w ≡ 0 → {store‴ : List ℕ} {more : Built} → Joins store″ most read inner store‴ more
-        → SoFar n s names count store most from base names″ store‴ last more
+        → SoFar n s stack count store most from base stack″ store‴ last more
     unfolding word-of
     group-read zero {more = more} joins =
         let reaches = inside .reaches in
@@ -156,12 +156,12 @@ module _ {n : Notation} {s names : List ℕ} {count : ℕ} {store : List ℕ} {m
         (joins .means base (so-far .state) (inside .state) (means-kept (groups .same) (so-far .reaches .means))
         (reaches .means))
         (λ st ps. rw (rw (eq-eqb w 0 zero) at (met .ahead))
-        (goes-group (opens s names count) (words-on n s (after .at)) (words-on n s (last .at)) closed st
+        (goes-group (opens s stack count) (words-on n s (after .at)) (words-on n s (last .at)) closed st
         (inside .state) ps few-there (rw (eq-eqb w 0 zero) at (inside .goes)) (inside .last)))
 
     -- AN ABSTRACTION: its body, and so its sequence, ends where the rest of the sequence ends
     body-ends : (w ≡ 0 → ⊥) → {store‴ : List ℕ} {more : Built} → JoinsUnder store″ most read inner store‴ more
-        → Comes n s (opens s names count) most from base store‴ (On more last closed)
+        → Comes n s (opens s stack count) most from base store‴ (On more last closed)
     unfolding word-of
     body-ends binds {more = more} joins =
         let reaches = inside .reaches in
@@ -182,15 +182,15 @@ module _ {n : Notation} {s names : List ℕ} {count : ℕ} {store : List ℕ} {m
           goes = λ failed ps.
               so-far .goes failed ps
               ∙ rw (rw (ne-eqb w 0 binds) at (met .ahead))
-              (goes-body (opens s names count) (words-on n s (after .at)) (words-on n s (last .at)) closed
+              (goes-body (opens s stack count) (words-on n s (after .at)) (words-on n s (last .at)) closed
               (unless-void failed (so-far .state)) (inside .state) ps few-there x
               (rw (ne-eqb w 0 binds) at (inside .goes)))
-              ∙ ap (λ (st : State). go (opens s names count) (ended closed (words-on n s (last .at))) st ps)
+              ∙ ap (λ (st : State). go (opens s stack count) (ended closed (words-on n s (last .at))) st ps)
               (beside-void failed (so-far .state) (under (inside .state)));
         })
 
     pub body-read : (w ≡ 0 → ⊥) → {store‴ : List ℕ} {more : Built} → JoinsUnder store″ most read inner store‴ more
-        → {came : Went} → came ≡ On more last closed → Reads n s names count store most from base came names″ store‴
+        → {came : Went} → came ≡ On more last closed → Reads n s stack count store most from base came stack″ store‴
     body-read binds {more = more} joins e =
         rw e (record {
           comes = body-ends binds joins;

@@ -23,15 +23,15 @@ abbrev pub open-of : List ℕ → ℕ → Open
 open-of s w = cond (eqb w 0) group (bound (name-of s (place-of w)))
 
 -- the first so many, the last of them innermost
-unfoldable pub opens : (s names : List ℕ) → ℕ → List Open
-opens s names zero = []
-opens s names (suc k) = open-of s (getD names k 0) ∷ opens s names k
+unfoldable pub opens : (s stack : List ℕ) → ℕ → List Open
+opens s stack zero = []
+opens s stack (suc k) = open-of s (getD stack k 0) ∷ opens s stack k
 
 -- the array has a place for all that may be open, and what is open is in the text
-pub record Opened (s names : List ℕ) (count : ℕ) : Type 0 where
-  pub as-long : length names ≡ most-open
+pub record Opened (s stack : List ℕ) (count : ℕ) : Type 0 where
+  pub as-long : length stack ≡ most-open
   pub few : count ≤ most-open
-  pub inside : (k : ℕ) → k < count → Inside s (place-of (getD names k 0))
+  pub inside : (k : ℕ) → k < count → Inside s (place-of (getD stack k 0))
 
 -- the first so many numbers of an array stay
 pub record Kept (xs ys : List ℕ) (count : ℕ) : Type 0 where

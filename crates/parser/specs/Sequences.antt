@@ -26,12 +26,12 @@ use Rattle.parser.specs.declared.sequences.Went.{Went}
 use Rattle.parser.specs.declared.sequences.Went.the-variants.{On, Stopped}
 
 -- a place in a text, what is open there, and the store
-pub record Ready (n : Notation) (s names : List ℕ) (count : ℕ) (store : List ℕ) (cap : ℕ) (from : Cursor) (base : ℕ) :
+pub record Ready (n : Notation) (s stack : List ℕ) (count : ℕ) (store : List ℕ) (cap : ℕ) (from : Cursor) (base : ℕ) :
     Type 0 where
   pub clean : Clean s
   pub placed : Placed s from
   pub valid : Valid n s (from .at)
-  pub opened : Opened s names count
+  pub opened : Opened s stack count
   pub roomy : Roomy store cap base
   pub few : base ≤ 2 * from .at
 
@@ -66,10 +66,10 @@ pub data Comes (n : Notation) (s : List ℕ) (os : List Open) (cap : ℕ) (from 
       → Comes n s os cap from base store (Stopped e)
 
 -- what was open, and the nodes made before, stay
-pub record Reads (n : Notation) (s names : List ℕ) (count : ℕ) (store : List ℕ) (cap : ℕ) (from : Cursor) (base : ℕ)
-    (r : Went) (names′ store′ : List ℕ) : Type 0 where
-  pub comes : Comes n s (opens s names count) cap from base store′ r
-  pub kept : Kept names names′ count
+pub record Reads (n : Notation) (s stack : List ℕ) (count : ℕ) (store : List ℕ) (cap : ℕ) (from : Cursor) (base : ℕ)
+    (r : Went) (stack′ store′ : List ℕ) : Type 0 where
+  pub comes : Comes n s (opens s stack count) cap from base store′ r
+  pub kept : Kept stack stack′ count
   pub same : Same store store′ base
 
 -- with one more open, or 7
@@ -79,8 +79,8 @@ pub data Enters (n : Notation) (s : List ℕ) (os : List Open) (count opening ca
   one-more : {r : Went} → count < most-open → Comes n s (open-of s opening ∷ os) cap from base store r
       → Enters n s os count opening cap from base store r
 
-pub record Groups (n : Notation) (s names : List ℕ) (count opening : ℕ) (store : List ℕ) (cap : ℕ) (from : Cursor)
-    (base : ℕ) (r : Went) (names′ store′ : List ℕ) : Type 0 where
-  pub enters : Enters n s (opens s names count) count opening cap from base store′ r
-  pub kept : Kept names names′ count
+pub record Groups (n : Notation) (s stack : List ℕ) (count opening : ℕ) (store : List ℕ) (cap : ℕ) (from : Cursor)
+    (base : ℕ) (r : Went) (stack′ store′ : List ℕ) : Type 0 where
+  pub enters : Enters n s (opens s stack count) count opening cap from base store′ r
+  pub kept : Kept stack stack′ count
   pub same : Same store store′ base

@@ -63,9 +63,9 @@ fn build(notation: Notation, cap: usize, text: &[u8], out: &mut [u8], store: &mu
     ensures { λ r. ⌜ Works (go [] (words-on (notation-of notation) (now (text .entry)) 0) (reading none) []
         then within cap) (now (out .entry)) (now (store .entry)) r (now (out .exit)) (now (store .exit)) ⌝ }
 {
-    let mut names = [0u64; MOST_OPEN];
+    let mut stack = [0u64; MOST_OPEN];
     let start = Cursor { at: 0, chars: 0 };
-    match sequence(text, notation, &mut names, 0, store, cap, start, 0) {
+    match sequence(text, notation, &mut stack, 0, store, cap, start, 0) {
         Went::Stopped(why) => Parsed::Refused(why),
         Went::On {
             read,

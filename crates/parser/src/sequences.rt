@@ -38,16 +38,16 @@ fn came(read: Built, here: Cursor, closed: bool) -> Went
 pub(crate) fn sequence(
     text: &[u8],
     notation: Notation,
-    names: &mut [u64],
+    stack: &mut [u64],
     count: usize,
     store: &mut [u64],
     cap: usize,
     from: Cursor,
     base: usize,
 ) -> Went
-    requires { ⌜ Ready (notation-of notation) (now text) (now names) count (now store) cap from base ⌝ }
-    ensures { λ r. ⌜ Reads (notation-of notation) (now (text .entry)) (now (names .entry)) count
-        (now (store .entry)) cap from base r (now (names .exit)) (now (store .exit)) ⌝ }
+    requires { ⌜ Ready (notation-of notation) (now text) (now stack) count (now store) cap from base ⌝ }
+    ensures { λ r. ⌜ Reads (notation-of notation) (now (text .entry)) (now (stack .entry)) count
+        (now (store .entry)) cap from base r (now (stack .exit)) (now (store .exit)) ⌝ }
 {
     let mut here = from;
     let mut read = Built {
@@ -55,13 +55,13 @@ pub(crate) fn sequence(
         used: base,
     };
     loop {
-        match token_at(text, notation, names, count, here) {
+        match token_at(text, notation, stack, count, here) {
             Token::Index(index, next) => {
                 read = with_variable(store, cap, read, index);
                 here = next;
             }
             Token::Opening(w, next) => {
-                let went = group(text, notation, names, count, w, store, cap, next, read.used);
+                let went = group(text, notation, stack, count, w, store, cap, next, read.used);
                 match went {
                     Went::Stopped(why) => return Went::Stopped(why),
                     Went::On {
@@ -88,7 +88,7 @@ pub(crate) fn sequence(
 fn group(
     text: &[u8],
     notation: Notation,
-    names: &mut [u64],
+    stack: &mut [u64],
     count: usize,
     opening: u64,
     store: &mut [u64],
@@ -96,14 +96,14 @@ fn group(
     from: Cursor,
     base: usize,
 ) -> Went
-    requires { ⌜ Ready (notation-of notation) (now text) (now names) count (now store) cap from base
+    requires { ⌜ Ready (notation-of notation) (now text) (now stack) count (now store) cap from base
         × Inside (now text) (place-of opening) ⌝ }
-    ensures { λ r. ⌜ Groups (notation-of notation) (now (text .entry)) (now (names .entry)) count opening
-        (now (store .entry)) cap from base r (now (names .exit)) (now (store .exit)) ⌝ }
+    ensures { λ r. ⌜ Groups (notation-of notation) (now (text .entry)) (now (stack .entry)) count opening
+        (now (store .entry)) cap from base r (now (stack .exit)) (now (store .exit)) ⌝ }
 {
     if MOST_OPEN <= count {
         return Went::Stopped(Refusal::TooHigh);
     }
-    names[count] = opening;
-    sequence(text, notation, names, count + 1, store, cap, from, base)
+    stack[count] = opening;
+    sequence(text, notation, stack, count + 1, store, cap, from, base)
 }

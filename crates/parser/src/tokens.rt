@@ -1,4 +1,4 @@
-// The tokens of the walk: words whose names are resolved among what is open, which a local array holds.
+// The tokens of the walk: words whose names are resolved among what is open, which a stack holds.
 use term::Notation;
 use words::Cursor;
 use words::Name;
@@ -34,16 +34,16 @@ fn unpack(w: u64) -> Name
 }
 
 // The index that a name has among what is open, from the innermost binder out; 0 where none has that name.
-fn resolve(text: &[u8], names: &[u64], count: usize, name: Name) -> u64
-    requires { ⌜ Clean (now text) × Inside (now text) name × Opened (now text) (now names) count ⌝ }
+fn resolve(text: &[u8], stack: &[u64], count: usize, name: Name) -> u64
+    requires { ⌜ Clean (now text) × Inside (now text) name × Opened (now text) (now stack) count ⌝ }
     ensures { λ r. ⌜ found r ≡ resolved (name-of (now (text .entry)) name) 1
-        (opens (now (text .entry)) (now (names .entry)) count) ⌝ }
+        (opens (now (text .entry)) (now (stack .entry)) count) ⌝ }
 {
     let mut left = count;
     let mut index: u64 = 1;
     while 0 < left {
         left -= 1;
-        let w = names[left];
+        let w = stack[left];
         if w != 0 {
             if same_name(text, name, unpack(w)) {
                 return index;
@@ -66,14 +66,14 @@ pub(crate) enum Token {
 pub(crate) fn token_at(
     text: &[u8],
     notation: Notation,
-    names: &[u64],
+    stack: &[u64],
     count: usize,
     here: Cursor,
 ) -> Token
     requires { ⌜ Clean (now text) × Placed (now text) here × Valid (notation-of notation) (now text) (here .at)
-        × Opened (now text) (now names) count ⌝ }
+        × Opened (now text) (now stack) count ⌝ }
     ensures { λ r. ⌜ Meets (notation-of notation) (now (text .entry))
-        (opens (now (text .entry)) (now (names .entry)) count) here r ⌝ }
+        (opens (now (text .entry)) (now (stack .entry)) count) here r ⌝ }
 {
     let step = here.next(text, notation);
     let next = step.next;
@@ -81,7 +81,7 @@ pub(crate) fn token_at(
     match word {
         Word::Number(index) => Token::Index(index, next),
         Word::Named(name) => {
-            let index = resolve(text, names, count, name);
+            let index = resolve(text, stack, count, name);
             if index == 0 {
                 return Token::Undefined;
             }

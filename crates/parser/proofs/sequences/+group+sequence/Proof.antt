@@ -65,18 +65,18 @@ claims t = (
 )
 
 abbrev Inv-loop : lts.InvT-loop
-Inv-loop text notation names₀ count store₀ cap base here₀ read₀ names store here read =
-    SoFar (notation-of notation) text names₀ count store₀ cap here₀ base names store here read
+Inv-loop text notation stack₀ count store₀ cap base here₀ read₀ stack store here read =
+    SoFar (notation-of notation) text stack₀ count store₀ cap here₀ base stack store here read
 
 abbrev μ-loop : lts.MeasureT-loop
-μ-loop text notation names₀ count store₀ cap base here₀ read₀ names store here read = length text - here .at
+μ-loop text notation stack₀ count store₀ cap base here₀ read₀ stack store here read = length text - here .at
 
 module _ (t : ℕ) where
   group-returns : group-lts.Need-returns (group-claims t) (group-at t) group.Post
   group-returns c = too-many-open (c .before .before .before .before .pre .1 .0) (c .if1 .taken)
 
-  group-slice-write-names : group-lts.Need-slice-write-names (group-claims t) (group-at t) group.Post
-  group-slice-write-names c =
+  group-slice-write-stack : group-lts.Need-slice-write-stack (group-claims t) (group-at t) group.Post
+  group-slice-write-stack c =
       let start = c .before .before .before .before in
       omega (arith, c .if1 .left, start .pre .1 .0 .opened .as-long)
 
@@ -276,7 +276,7 @@ module _ (t : ℕ) where
 pub +group+sequence-spec : {M : Type 1} → statement M
 +group+sequence-spec = close μ-group μ-sequence
     (λ t. group-lts.spec (group-claims t) (group-at t) group.Post
-    (group-returns t) (λ c. search needs) (group-slice-write-names t) (λ c. search needs) (group-sequence-requires t)
+    (group-returns t) (λ c. search needs) (group-slice-write-stack t) (λ c. search needs) (group-sequence-requires t)
     (group-same-length t) (group-same-length-2 t) (group-returns-2 t))
     (λ t. lts.spec (claims t) (sequence-at t) sequence.Post
     Inv-loop μ-loop (loop-holds t) (token-at-requires t) (λ c. search needs) (with-variable-requires t) (loop-less t)

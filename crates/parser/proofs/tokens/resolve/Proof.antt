@@ -1,5 +1,5 @@
 -- `parser::tokens::resolve` meets its contract: the binders are passed one by one, from the innermost.
-use mathlib.Core.Path.{sym, _∙_}
+use mathlib.Core.Path.{_≡_, sym, _∙_}
 use native.Mathlib.Omega.{arith}
 use borrow.Author.Needs.{needs}
 use Rattle.parser.proofs.Meeting.{Looks, looks-first, looked-all, looks-past-group, looks-past-binder, looked-up}
@@ -8,10 +8,10 @@ use Rattle.parser.proofs.tokens.resolve.Statement.{statement}
 use Rattle.parser.proofs.tokens.resolve.Tie as tie
 
 abbrev Inv-loop : tie.InvT-loop
-Inv-loop text names count name left₀ index₀ left index = Looks text names (name-of text name) count left index
+Inv-loop text stack count name left₀ index₀ left index = Looks text stack (name-of text name) count left index
 
 abbrev μ-loop : tie.MeasureT-loop
-μ-loop text names count name left₀ index₀ left index = left
+μ-loop text stack count name left₀ index₀ left index = left
 
 loop-holds : tie.Need-loop-holds Inv-loop μ-loop
 loop-holds c = looks-first _ _ _ _
