@@ -1,7 +1,6 @@
 // What a sequence has read so far, and the nodes it is built of while the term may still be within the bounds.
 use calculus::MOST_HEIGHT;
 use term::larger;
-ghost use mathlib.Core.Path.{_≡_};
 ghost use Prim.Native.Nat.{_*_, _≤_};
 ghost use Rattle.calculus.specs.Bounds.{most-text};
 ghost use Rattle.parser.specs.Building.{Roomy, Makes, Enclosable, Encloses, Applicable, Applies};

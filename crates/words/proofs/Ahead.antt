@@ -6,7 +6,7 @@ use native.Mathlib.Omega.{arith}
 use native.Mathlib.Decide.{decLt}
 use lib.ListN.{length, getD}
 use Rattle.calculus.specs.Characters.{characters}
-use Rattle.calculus.specs.Refusal.{invalid-character, Answer, given, refused, _then_}
+use Rattle.calculus.specs.Refusal.{invalid-character, given, refused, _then_}
 use Rattle.calculus.specs.Words.{Word, ended, word, invalid, invalid-in, on-next, words-from, words}
 use Rattle.calculus.specs.Reading.{Notation, next}
 use Rattle.calculus.proofs.Moves.{Moves, to-an-invalid, moves, next-shorter, words-enough}

@@ -1,5 +1,5 @@
 -- `parser::tokens::resolve` meets its contract: the binders are passed one by one, from the innermost.
-use mathlib.Core.Path.{_≡_, sym, _∙_}
+use mathlib.Core.Path.{sym, _∙_}
 use native.Mathlib.Omega.{arith}
 use borrow.Author.Needs.{needs}
 use Rattle.parser.proofs.Meeting.{Looks, looks-first, looked-all, looks-past-group, looks-past-binder, looked-up}
