@@ -5,3 +5,4 @@ pub mod Parts
 pub mod Loading
 pub mod Coding
 pub mod Saving
+pub mod Granting

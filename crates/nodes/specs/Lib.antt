@@ -2,3 +2,4 @@
 pub mod Packing
 pub mod Store
 pub mod Coded
+pub mod Lending

@@ -1,4 +1,6 @@
 // Numbered nodes in lent room, two numbers each: how they are made, loaded from coded bytes, saved to them and cleared.
+pub mod lending;
+
 use calculus::ROOM_PER_NODE;
 use term::Head;
 use term::larger;
@@ -73,8 +75,16 @@ pub fn right_of(x: u64) -> usize
     (x / RIGHT) as usize
 }
 
+// Two parts in one number.
+pub fn pair(left: usize, right: usize) -> u64
+    requires { ⌜ (left < 4294967296) × (right < 4294967296) ⌝ }
+    ensures { λ r. ⌜ r ≡ left + 4294967296 * right ⌝ }
+{
+    left as u64 + RIGHT * (right as u64)
+}
+
 // Both numbers of a node; the number of the next one is returned.
-fn put(room: &mut [u64], used: usize, w: u64, x: u64) -> usize
+pub fn put(room: &mut [u64], used: usize, w: u64, x: u64) -> usize
     requires { ⌜ 2 * used + 2 ≤ length (now room) ⌝ }
     ensures { λ r. ⌜ (r ≡ used + 1)
         × (now (room .exit) ≡ set (set (now (room .entry)) (2 * used) w) (2 * used + 1) x) ⌝ }
@@ -163,7 +173,7 @@ pub fn make_application(room: &mut [u64], used: usize, left: usize, right: usize
         larger(free_of(a), free_of(b)),
         settle(a, b),
     );
-    put(room, used, facts, left as u64 + RIGHT * (right as u64))
+    put(room, used, facts, pair(left, right))
 }
 
 // The offset after a term that was loaded, and the number of the next node: the term is the node before it.
@@ -205,7 +215,7 @@ pub fn load(s: &[u8], at: usize, room: &mut [u64], used: usize) -> Loaded
 }
 
 // The eight bytes of an index, low byte first; the place after them is returned.
-fn put_index(out: &mut [u8], at: usize, index: u64) -> usize
+pub fn put_index(out: &mut [u8], at: usize, index: u64) -> usize
     requires { ⌜ at + 8 ≤ length (now out) ⌝ }
     ensures { λ r. ⌜ Puts (now (out .entry)) at (digits 7 index) r (now (out .exit)) ⌝ }
 {

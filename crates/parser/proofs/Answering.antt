@@ -1,37 +1,39 @@
 -- From the sequences to what `parse` answers: the walk of the whole text, 3 to 9 in their order, and 1 and 2 before.
-use Prim.Native.Nat.{ℕ, _+_, _*_, _≤_, _<_}
-use mathlib.Core.Path.{_≡_, refl, sym, ap, ap₂, _∙_}
+use Prim.Native.Nat.{ℕ, _+_, _*_, _≤_}
+use mathlib.Core.Path.{_≡_, refl, sym, _∙_}
 use mathlib.Core.Bool.{Bool, true, false}
 use mathlib.Core.List.{List, [], _++_}
 use mathlib.Core.Option.{none}
 use native.Mathlib.Omega.{arith}
-use lib.ListN.{length, take, drop, replicate, length-replicate}
-use lib.Seq.{length-take-le, drop-at}
-use borrow.Author.Tests.{le-leb, lt-leb}
+use lib.ListN.{length, take, drop}
+use borrow.Author.Tests.{le-leb}
 use Rattle.calculus.specs.Term.{Term}
-use Rattle.calculus.specs.Bounds.{most-nodes, most-open, most-text, output-per-node, room-per-node}
+use Rattle.calculus.specs.Bounds.{most-open, most-text, room-per-node}
 use Rattle.calculus.specs.Refusal.{Answer, given, refused, _then_}
 use Rattle.calculus.specs.Characters.{characters}
 use Rattle.calculus.specs.Words.{Word, words}
 use Rattle.calculus.specs.Walk.{walk}
 use Rattle.calculus.specs.Judging.{within}
 use Rattle.calculus.specs.Reading.{Notation, next, characters-of, read-text}
-use Rattle.calculus.specs.Outcomes.{cleared, parse-of}
+use Rattle.calculus.specs.Outcomes.{stored, coded, cleared, parse-of}
 use Rattle.term.specs.Answers.{refusal-of}
 use Rattle.term.specs.declared.Refusal.{Refusal}
-use Rattle.term.specs.declared.Refusal.the-variants.{OutsideBounds, TooLittleRoom}
 use Rattle.words.specs.Places.{Clean, remains}
 use Rattle.words.specs.Judging.{Judges, is-fine, is-refused}
 use Rattle.words.specs.declared.Cursor.{Cursor}
 use Rattle.words.specs.declared.Judged.the-variants as judged
 use Rattle.words.specs.Ahead.{words-at}
 use Rattle.words.proofs.Ahead.{ahead-start}
+use Rattle.nodes.specs.Lending.{granted-told, granting, Lent}
+use Rattle.nodes.specs.declared.lending.Granted.{Granted}
+use Rattle.nodes.specs.declared.lending.Granted.the-variants as granted
+use Rattle.nodes.proofs.Granting.{not-granted, Passed, answered}
 use Rattle.parser.specs.Answers.{parsed-told}
 use Rattle.parser.specs.Opens.{opens}
 use Rattle.parser.specs.States.{State, reading, parsed-on, go, ended}
 use Rattle.parser.specs.Tokens.{words-on, Valid}
 use Rattle.parser.specs.Sequences.{Ready, Ends, Comes, to-its-end, to-a-refusal, Reads}
-use Rattle.parser.specs.Parsing.{Lent, Stores, Storable, Saves, Works}
+use Rattle.parser.specs.Parsing.{Stores, Storable, Saves, Works}
 use Rattle.parser.specs.declared.building.Built.{Built}
 use Rattle.parser.specs.declared.sequences.Went.{Went}
 use Rattle.parser.specs.declared.sequences.Went.the-variants.{On, Stopped}
@@ -153,62 +155,17 @@ module _ (n : Notation) (s : List ℕ) where
       record { stores = refused-stores e out (judged-refused most e refuses); as-long = refl }
 
 -- 1 AND 2, and the work after them
-module _ (n : Notation) (most : ℕ) (text out room : List ℕ) where
-  pub cap-zero : most < 1 → (parsed-told (Refused OutsideBounds), out, room) ≡ parse-of n most text out room
+module _ (n : Notation) (cap : ℕ) (text out room : List ℕ) where
+  pub refuses : {g : Granted} {why : Refusal} → granted-told g ≡ granting cap (length out) (length room)
+      → g ≡ granted.Refused why
+      → (parsed-told (Refused why), out, room) ≡ parse-of n cap text out room
   unfolding parse-of parsed-told
-  cap-zero h = rw (lt-leb 1 most h)
+  refuses says is = not-granted cap out room refused (stored (read-text n cap text then coded) out) says is
 
-  pub cap-too-great : most-nodes < most
-      → (parsed-told (Refused OutsideBounds), out, room) ≡ parse-of n most text out room
-  unfolding parse-of parsed-told
-  cap-too-great h = rw (le-leb 1 most (omega arith), lt-leb most most-nodes h)
-
-  module _ (some-cap : 1 ≤ most) (in-bounds : most ≤ most-nodes) where
-    pub output-too-little : length out < output-per-node * most
-        → (parsed-told (Refused TooLittleRoom), out, room) ≡ parse-of n most text out room
-    unfolding parse-of parsed-told
-    output-too-little h =
-        rw (le-leb 1 most some-cap, le-leb most most-nodes in-bounds, lt-leb (output-per-node * most) (length out) h)
-
-    module _ (output : output-per-node * most ≤ length out) where
-      pub room-too-little : length room < room-per-node * most
-          → (parsed-told (Refused TooLittleRoom), out, room) ≡ parse-of n most text out room
-      unfolding parse-of parsed-told
-      room-too-little h =
-          rw (
-            le-leb 1 most some-cap,
-            le-leb most most-nodes in-bounds,
-            le-leb (output-per-node * most) (length out) output,
-            lt-leb (room-per-node * most) (length room) h,
-          )
-
-      module _ (enough : room-per-node * most ≤ length room) where
-        pub first-lent : Lent most out (take (room-per-node * most) room)
-        first-lent =
-            record { in-bounds = in-bounds; output = output; room = length-take-le (room-per-node * most) room enough }
-
-        -- the room beyond is as before, and so is the room once it is cleared
-        cleared-again : (store′ : List ℕ) → length store′ ≡ room-per-node * most
-            → cleared most (store′ ++ drop (room-per-node * most) room) ≡ cleared most room
-        cleared-again store′ long =
-            let zeros : List ℕ = replicate (room-per-node * most) 0 in
-            let same : length store′ ≡ length zeros = long ∙ sym
-            (length-replicate {0} {A = ℕ} (room-per-node * most) 0) in
-            ap (λ rest. zeros ++ rest)
-            (drop-at store′ (drop (room-per-node * most) room) (length zeros) same
-            ∙ ap (λ k. drop k room) (sym (length-replicate {0} {A = ℕ} (room-per-node * most) 0)))
-
-        pub answers : {p : Parsed} {after store′ left : List ℕ}
-            → Works (read-text n most text) out (take (room-per-node * most) room) p after store′
-            → left ≡ cleared most (store′ ++ drop (room-per-node * most) room)
-            → (parsed-told p, after, left) ≡ parse-of n most text out room
-        unfolding parse-of
-        answers {store′ = store′} works is =
-            rw (
-              le-leb 1 most some-cap,
-              le-leb most most-nodes in-bounds,
-              le-leb (output-per-node * most) (length out) output,
-              le-leb (room-per-node * most) (length room) enough,
-            )
-            (ap₂ (λ (p : Answer ℕ × List ℕ) (left : List ℕ). (p .0, p .1, left)) (works .stores)
-            (is ∙ cleared-again store′ (works .as-long ∙ first-lent .room)))
+  pub answers : {most : ℕ} → Passed cap out room most → {p : Parsed} {after store′ left : List ℕ}
+      → Works (read-text n most text) out (take (room-per-node * most) room) p after store′
+      → left ≡ cleared most (store′ ++ drop (room-per-node * most) room)
+      → (parsed-told p, after, left) ≡ parse-of n cap text out room
+  unfolding parse-of
+  answers passes {store′ = store′} works left =
+      answered cap out room passes refused store′ (rw (passes .same) at (works .stores)) (works .as-long) left

@@ -16,10 +16,11 @@ use Rattle.calculus.proofs.Putting.{laid}
 use Rattle.calculus.proofs.Sizes.{length-encode, nine-per-node}
 use Rattle.term.specs.declared.Refusal.the-variants.{TooHigh, TooManyNodes, EmptyExpression}
 use Rattle.nodes.specs.Coded as nodes
+use Rattle.nodes.specs.Lending.{Lent}
 use Rattle.parser.specs.Answers.{parsed-told}
 use Rattle.parser.specs.States.{State}
 use Rattle.parser.specs.Building.{Means, nothing, term, empty}
-use Rattle.parser.specs.Parsing.{Lent, Stores, Storable, Saves, at-the-end}
+use Rattle.parser.specs.Parsing.{Stores, Storable, Saves, at-the-end}
 use Rattle.parser.specs.declared.building.Found.{Found}
 use Rattle.parser.specs.declared.building.Built.{Built}
 use Rattle.parser.specs.declared.building.Part.the-variants as part

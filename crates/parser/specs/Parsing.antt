@@ -1,24 +1,18 @@
 -- What is left to do after 1 and 2: the answer and the output, for a text and a store.
-use Prim.Native.Nat.{ℕ, _*_, _≤_}
+use Prim.Native.Nat.{ℕ}
 use mathlib.Core.Path.{_≡_}
 use mathlib.Core.List.{List, []}
 use lib.ListN.{length}
-use Rattle.calculus.specs.Bounds.{most-nodes, output-per-node, room-per-node}
 use Rattle.calculus.specs.Refusal.{Answer, _then_}
 use Rattle.calculus.specs.Term.{Term}
 use Rattle.calculus.specs.Judging.{within}
 use Rattle.calculus.specs.Outcomes.{stored, coded}
+use Rattle.nodes.specs.Lending.{Lent}
 use Rattle.parser.specs.Answers.{parsed-told}
 use Rattle.parser.specs.States.{State, parsed-on}
 use Rattle.parser.specs.Building.{Means}
 use Rattle.parser.specs.declared.building.Built.{Built}
 use Rattle.parser.specs.declared.Parsed.{Parsed}
-
--- what 1 and 2 let pass; the store is the room's first numbers
-pub record Lent (cap : ℕ) (out store : List ℕ) : Type 0 where
-  pub in-bounds : cap ≤ most-nodes
-  pub output : output-per-node * cap ≤ length out
-  pub room : length store ≡ room-per-node * cap
 
 -- the answer, and what it leaves in the output, are those of a term that is given or refused
 abbrev pub Stores : (reads : Answer Term) (before : List ℕ) (r : Parsed) (after : List ℕ) → Type 0

@@ -6,10 +6,10 @@ mod tokens;
 use building::Built;
 use building::Part;
 use calculus::MOST_HEIGHT;
-use calculus::MOST_NODES;
 use calculus::MOST_OPEN;
-use calculus::OUTPUT_PER_NODE;
 use calculus::ROOM_PER_NODE;
+use nodes::lending::Granted;
+use nodes::lending::grant;
 use sequences::Went;
 use sequences::sequence;
 use term::Notation;
@@ -28,7 +28,8 @@ ghost use Rattle.words.specs.Places.{Clean};
 ghost use Rattle.parser.specs.Answers.{parsed-told};
 ghost use Rattle.parser.specs.States.{reading, go};
 ghost use Rattle.parser.specs.Tokens.{words-on, Valid};
-ghost use Rattle.parser.specs.Parsing.{Lent, Storable, Saves, Works};
+ghost use Rattle.nodes.specs.Lending.{Lent};
+ghost use Rattle.parser.specs.Parsing.{Storable, Saves, Works};
 
 // The bytes that the term takes in the output, or why it has none.
 pub enum Parsed {
@@ -92,21 +93,12 @@ pub fn parse(notation: Notation, cap: u64, text: &[u8], out: &mut [u8], room: &m
     ensures { λ r. ⌜ (parsed-told r, now (out .exit), now (room .exit))
         ≡ parse-of (notation-of notation) cap (now (text .entry)) (now (out .entry)) (now (room .entry)) ⌝ }
 {
-    if cap < 1 {
-        return Parsed::Refused(Refusal::OutsideBounds);
+    match grant(cap, out.len(), room.len()) {
+        Granted::Refused(why) => Parsed::Refused(why),
+        Granted::Cap(most) => {
+            let answer = read(notation, most, text, out, &mut room[..ROOM_PER_NODE * most]);
+            nodes::clear(room, most);
+            answer
+        }
     }
-    if MOST_NODES < cap {
-        return Parsed::Refused(Refusal::OutsideBounds);
-    }
-    let most = cap as usize;
-    if out.len() < OUTPUT_PER_NODE * most {
-        return Parsed::Refused(Refusal::TooLittleRoom);
-    }
-    let lent = ROOM_PER_NODE * most;
-    if room.len() < lent {
-        return Parsed::Refused(Refusal::TooLittleRoom);
-    }
-    let answer = read(notation, most, text, out, &mut room[..lent]);
-    nodes::clear(room, most);
-    answer
 }

@@ -174,7 +174,7 @@ fn is_free(index: u64, depth: u64) -> bool
     if index < 1 { true } else { depth < index }
 }
 
-fn either(a: bool, b: bool) -> bool
+pub fn either(a: bool, b: bool) -> bool
     ensures { λ r. ⌜ r ≡ a || b ⌝ }
 {
     if a { true } else { b }

@@ -20,7 +20,8 @@ pack-requires c κs =
 returns : tie.Need-returns
 returns c =
     let at-put = c .before .before in
-    let at-pack = at-put .before .before in
+    let at-pair = at-put .before in
+    let at-pack = at-pair .before .before in
     let at-settle = at-pack .before in
     let at-larger2 = at-settle .before in
     let at-free-of2 = at-larger2 .before in
@@ -49,7 +50,7 @@ returns c =
       at-nodes-of .nodes-of .ensures,
     ) in
     let said = says-application a b (omega arith) (omega arith) in
-    application-made xs (x .used) _ _ (omega arith) (at-put .put .ensures) refl (omega arith) (omega arith)
+    application-made xs (x .used) _ _ (omega arith) (at-put .put .ensures) (at-pair .pair .ensures) (omega arith) (omega arith)
     (omega arith) (λ t u h k. rw word-is (said t u (says xs t (x .left) h) (says xs u (x .right) k)))
 
 pub make-application-spec : {M : Type 1} → statement M
@@ -75,8 +76,7 @@ make-application-spec =
     (λ c κs. search needs)
     (λ c κs. search needs)
     pack-requires
-    (λ c. search needs)
-    (λ c. search needs)
+    (λ c κs. search needs)
     (λ c κs. search needs)
     (λ c. search needs)
     returns)
