@@ -6,3 +6,4 @@ pub mod Loading
 pub mod Coding
 pub mod Saving
 pub mod Granting
+pub mod Unique

@@ -12,9 +12,10 @@ use Rattle.calculus.specs.Refusal.{Answer, given, refused, _then_, kept-if, not
 use Rattle.calculus.specs.Bytes.{encode, decode}
 use Rattle.calculus.specs.Judging.{within}
 use Rattle.calculus.specs.Outcomes.{checked}
-use Rattle.calculus.proofs.Coding.{AllBytes, encode-decode}
+use Rattle.calculus.proofs.Coding.{AllBytes, encode-decode, decoded-small}
+use Rattle.calculus.proofs.Judged.{checked-given}
 use Rattle.term.specs.FactsOf.{facts-of}
-use Rattle.term.specs.Surveys.{Scans, is-whole, is-broken, Stands, Begins}
+use Rattle.term.specs.Surveys.{Scans, is-whole, is-broken, Stands, Admitted, Begins}
 use Rattle.term.specs.Surveys.{Reaches, in-room, above-room, Surveys, judged}
 use Rattle.term.specs.Answers.{refusal-of, check-told, check-of}
 use Rattle.term.specs.declared.Facts.{Facts}
@@ -84,6 +85,17 @@ module _ (cap : ℕ) (s : List ℕ) {r : Checked} (says : check-told r ≡ check
       read : (a : Answer Term) → checked cap s ≡ a → given f ≡ (a then (λ t. given (facts-of 0 t))) → IsWhole cap s f
       read (given t) d k = record { term = t; let-through = d; same = cc }
       read (refused why) d k = let never : _≡_ {A = ℕ} 0 1 = cc in absurd (omega arith)
+
+  pub check-admits : {f : Facts} → AllBytes s → r ≡ Whole f → Admitted cap s
+  check-admits bytes e =
+      let whole = check-whole e in
+      let (decodes, _, _) = checked-given s (whole .let-through) in
+      record {
+        term = whole .term;
+        passes = whole .let-through;
+        stands = decoded-stands s bytes decodes;
+        small = decoded-small s bytes decodes;
+      }
 
   pub check-refused : {why : Refusal} → r ≡ Refused why → checked cap s ≡ refused (refusal-of why)
   unfolding check-told check-of

@@ -5,9 +5,11 @@ use mathlib.Core.Bool.{_||_}
 use mathlib.Core.List.{List, _++_}
 use lib.Dec.{leb}
 use lib.ListN.{length, drop}
-use Rattle.calculus.specs.Term.{Term, height}
+use Rattle.calculus.specs.Term.{Term, height, greatest-index}
+use Rattle.calculus.specs.Bounds.{greatest-number}
 use Rattle.calculus.specs.Refusal.{Answer, given, refused, kept-if, too-high, too-many-nodes, not-a-term}
 use Rattle.calculus.specs.Bytes.{encode}
+use Rattle.calculus.specs.Outcomes.{checked}
 use Rattle.calculus.proofs.Sizes.{size}
 use Rattle.term.specs.FactsOf.{facts-of}
 use Rattle.term.specs.declared.Facts.{Facts}
@@ -25,6 +27,13 @@ pub data Scans : Answer Term → Scan → Type 0 where
 pub record Stands (s : List ℕ) (at : ℕ) (t : Term) : Type 0 where
   pub rest : List ℕ
   pub bytes : drop at s ≡ encode t ++ rest
+
+-- an input that 10, 7 and 9 let through
+pub record Admitted (cap : ℕ) (s : List ℕ) : Type 0 where
+  pub term : Term
+  pub passes : checked cap s ≡ given term
+  pub stands : Stands s 0 term
+  pub small : greatest-index term ≤ greatest-number
 
 -- some term stands at an offset, which is then within s
 pub record Begins (s : List ℕ) (at : ℕ) : Type 0 where

@@ -1,0 +1,20 @@
+-- Laws that the proofs of this crate use.
+pub mod Levels
+pub mod Uses
+pub mod Ways
+pub mod Dropping
+pub mod Sequence
+pub mod Kept
+pub mod Stored
+pub mod Parts
+pub mod Variables
+pub mod Counting
+pub mod Loaded
+pub mod Readiness
+pub mod Remaking
+pub mod Rounds
+pub mod Scoping
+pub mod Placing
+pub mod Written
+pub mod Answering
+pub mod Unique

@@ -1,0 +1,30 @@
+-- `eta::work` meets its contract: the input is checked first.
+use Rattle.calculus.proofs.Coding.{AllBytes}
+use Rattle.term.proofs.Checking.{check-admits, check-refused}
+use Rattle.eta.proofs.Answering.{input-refused}
+use borrow.Author.Needs.{needs}
+use Rattle.eta.proofs.work.Statement.{statement}
+use Rattle.eta.proofs.work.Tie as tie
+
+bytes : (c : tie.After-shared-slice-known) → AllBytes (c .before .args .s .now)
+bytes c i = c .shared-slice-known .given i .fits
+
+contract-places-requires : tie.Need-contract-places-requires
+contract-places-requires c κs =
+    let at-enum-told = c .before .before in
+    let at-check = at-enum-told .before .before in
+    let at-shared-slice-known = at-check .before .before .before in
+    let start = at-shared-slice-known .before in
+    (start .pre, check-admits _ _ (at-check .check .ensures) (bytes at-shared-slice-known) (at-enum-told .enum-told
+    .given .1))
+
+returns : tie.Need-returns
+returns c =
+    let at-why = c .before in
+    let at-check = at-why .before .before in
+    input-refused _ _ _ (check-refused _ _ (at-check .check .ensures) (at-why .why .given .1))
+
+pub work-spec : {M : Type 1} → statement M
+work-spec = tie.close (tie.spec
+    (λ c κs. search needs) (λ c. search needs) (λ c. search needs) contract-places-requires returns
+    (λ c. search needs) (λ c. search needs) (λ c. search needs))

@@ -1,0 +1,4 @@
+-- Laws that the proofs of this crate use.
+pub mod Contracting
+pub mod Applications
+pub mod Unique

@@ -1,0 +1,23 @@
+-- ONE OUTCOME: any two outcomes that the statement of `apply` allows are the same, both buffers included.
+use Prim.Native.Nat.{ℕ}
+use mathlib.Core.Path.{_≡_, refl, sym, ap, _∙_}
+use mathlib.Core.List.{List}
+use Rattle.calculus.specs.Outcomes.{apply-of}
+use Rattle.term.proofs.Unique.{refusal-back, answer-from, one-by}
+use Rattle.reduction.specs.Answers.{applied-told}
+use Rattle.reduction.specs.declared.Applied.{Applied}
+use Rattle.reduction.specs.declared.Applied.the-variants.{Length, Refused}
+
+applied-back : (r : Applied) → answer-from Length Refused (applied-told r) ≡ r
+unfolding applied-told
+applied-back (Length n) = refl
+applied-back (Refused why) = ap Refused (refusal-back why)
+
+pub one-apply : (cap : ℕ) (s u out room : List ℕ) {r q : Applied} {after other left remaining : List ℕ}
+    → (applied-told r, after, left) ≡ apply-of cap s u out room
+    → (applied-told q, other, remaining) ≡ apply-of cap s u out room → (r ≡ q) × (after ≡ other) × (left ≡ remaining)
+one-apply cap s u out room e k = (
+  one-by applied-told (answer-from Length Refused) applied-back (ap (λ x. x .0) e) (ap (λ x. x .0) k),
+  ap (λ x. x .1) (e ∙ sym k),
+  ap (λ x. x .2) (e ∙ sym k),
+)
