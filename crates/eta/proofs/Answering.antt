@@ -1,13 +1,13 @@
 -- From the named term to what `eta` answers: the input's refusals, the run, and 1 and 2 before.
 use Prim.Native.Nat.{ℕ, _+_, _-_, _*_, _≤_, _<_}
-use mathlib.Core.Path.{_≡_, refl, sym, ap, ap₂, _∙_}
-use mathlib.Core.Bool.{Bool, true, false, cond}
+use mathlib.Core.Path.{_≡_, refl, ap, ap₂, _∙_}
+use mathlib.Core.Bool.{true, false, cond}
 use mathlib.Core.List.{List, [], _++_}
 use native.Mathlib.Omega.{arith}
 use native.Mathlib.Nat.{zero-add}
 use lib.ListN.{length, take, drop}
-use Rattle.calculus.specs.Term.{Term, nodes, height, greatest-index}
-use Rattle.calculus.specs.Bounds.{most-height, greatest-number, room-per-node}
+use Rattle.calculus.specs.Term.{Term, nodes, height}
+use Rattle.calculus.specs.Bounds.{most-height, room-per-node}
 use Rattle.calculus.specs.Bytes.{encode}
 use Rattle.calculus.specs.Refusal.{refused}
 use Rattle.calculus.specs.Runs as calculus
@@ -15,7 +15,6 @@ use Rattle.calculus.specs.Runs.{finished, unfinished, refused-after}
 use Rattle.calculus.specs.Eta.{eta, may-follow, eta-from}
 use Rattle.calculus.specs.Ends.{EtaSteps, none-made, one-more}
 use Rattle.calculus.specs.Outcomes.{checked, run-on, stored-run, cleared, eta-of, laid-over}
-use Rattle.calculus.proofs.Coding.{AllBytes, decoded-small}
 use Rattle.calculus.proofs.EtaRuns.{eta-comes, nodes-taken}
 use Rattle.calculus.proofs.Judged.{checked-given}
 use Rattle.calculus.proofs.Lowering.{eta-smaller}
@@ -32,7 +31,7 @@ use Rattle.nodes.specs.declared.lending.Granted.the-variants as granted
 use Rattle.nodes.specs.declared.lending.Run.{Run}
 use Rattle.nodes.specs.declared.lending.Run.the-variants as run
 use Rattle.nodes.proofs.Granting.{not-granted, Passed, answered}
-use Rattle.eta.specs.Named.{Named, named, plain, levels, weight}
+use Rattle.eta.specs.Named.{named, plain, levels}
 use Rattle.eta.specs.Scope.{Among, first, later, Scoped}
 use Rattle.eta.specs.Shrinking.{Came, shrunk}
 use Rattle.eta.specs.Naming.{Nameable, Reads}

@@ -5,7 +5,7 @@ pub mod Ways
 pub mod Dropping
 pub mod Sequence
 pub mod Kept
-pub mod Stored
+pub mod Remade
 pub mod Parts
 pub mod Variables
 pub mod Counting

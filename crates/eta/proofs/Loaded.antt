@@ -22,7 +22,8 @@ use Rattle.eta.specs.Store.{Names, binder-word}
 use Rattle.eta.specs.Naming.{Counts, Countable, Nameable, Reads}
 use Rattle.eta.specs.declared.naming.Read.{Read}
 use Rattle.eta.proofs.Kept.{names-kept}
-use Rattle.eta.proofs.Stored.{Stored, binds-stored, joins-stored}
+use Rattle.nodes.proofs.Stored.{Stored}
+use Rattle.eta.proofs.Remade.{binds-stored, joins-stored}
 use Rattle.eta.proofs.Counting.{uses-few, fewer, countable-body, countable-after}
 use Rattle.eta.proofs.Counting.{counts-binder, counted-binder, counts-application}
 use Rattle.eta.proofs.Variables.{zero-variable}

@@ -41,12 +41,12 @@ module _ (xs : List ℕ) (n k : ℕ) where
   ends-elsewhere l (joins m r) other h = refl
 
 -- what a place applies
-pub record Place (xs : List ℕ) (n : ℕ) (b : Named) : Type 0 where
+pub record Applies (xs : List ℕ) (n : ℕ) (b : Named) : Type 0 where
   pub below : link xs n % 4294967296 < n
   pub names : Names xs (applied b) (link xs n % 4294967296)
   pub lighter : weight (applied b) < weight b
 
-ends-place : {xs : List ℕ} {n : ℕ} (k : ℕ) (b : Named) → ends-in k b ≡ true → Names xs b n → Place xs n b
+ends-place : {xs : List ℕ} {n : ℕ} (k : ℕ) (b : Named) → ends-in k b ≡ true → Names xs b n → Applies xs n b
 unfolding Names weight
 ends-place k (bound m) e h = absurd (false≢true e)
 ends-place k (loose j) e h = absurd (false≢true e)
@@ -54,7 +54,7 @@ ends-place k (binds m b) e h = absurd (false≢true e)
 ends-place k (joins l r) e h = record { below = h .1; names = h .3; lighter = omega arith }
 
 pub ready-place : {xs : List ℕ} {n : ℕ} (k : ℕ) (alone : Bool) (b : Named) → (alone && ends-in k b) ≡ true
-    → Names xs b n → Place xs n b
+    → Names xs b n → Applies xs n b
 ready-place k true b e h = ends-place k b e h
 ready-place k false b e h = absurd (false≢true e)
 

@@ -12,7 +12,8 @@ use Rattle.eta.specs.Shrinking.{Came, ends-in, again}
 use Rattle.eta.specs.Store.{Names, binder-word}
 use Rattle.eta.specs.Shrinks.{Stands-for, Checkable, Ready, Joinable, Joins, Bindable, Rebinds, Binds}
 use Rattle.eta.specs.declared.shrinking.Shrunk.{Shrunk}
-use Rattle.eta.proofs.Stored.{Stored, binds-stored, joins-stored}
+use Rattle.nodes.proofs.Stored.{Stored}
+use Rattle.eta.proofs.Remade.{binds-stored, joins-stored}
 use Rattle.eta.proofs.Readiness.{ready-place}
 
 -- AN APPLICATION

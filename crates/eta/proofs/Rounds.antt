@@ -17,7 +17,7 @@ use Rattle.eta.specs.Shrinks.{Bindable, Binds}
 use Rattle.eta.specs.declared.shrinking.Shrunk.{Shrunk}
 use Rattle.eta.proofs.Kept.{names-kept}
 use Rattle.eta.proofs.Parts.{Abstraction, Application, named-abstraction, named-application}
-use Rattle.eta.proofs.Readiness.{Place, ready-place}
+use Rattle.eta.proofs.Readiness.{Applies, ready-place}
 use Rattle.eta.proofs.Ways.{lone-shrunk, steps-shrunk, shrunk-binds, shrunk-place}
 
 stands-kept : {xs ys : List ℕ} {u : ℕ} {r : Shrunk} (c : Came) → Same xs ys u → r .used ≤ u → Stands-for xs r c
@@ -209,7 +209,7 @@ module _ {room : List ℕ} {node used steps : ℕ} (asked : Shrinkable room node
 
       -- ONE THAT GOES
       module _ (is-ready : ready ≡ true) {m : ℕ} (m-is : m ≡ link room (link room node) % 4294967296) where
-        place : {t : Named} (v : Abstraction room node t) → Place room (link room node) (v .body)
+        place : {t : Named} (v : Abstraction room node t) → Applies room (link room node) (v .body)
         place v =
             ready-place (v .level) (lone (v .level) (v .body)) (v .body) (sym (is-place v) ∙ is-ready) (v .names)
 

@@ -4,7 +4,7 @@ use mathlib.Core.Path.{_≡_, refl, _∙_}
 use mathlib.Core.Bool.{Bool, true, false, _&&_, _||_, cond, and-false}
 use native.Mathlib.Omega.{arith}
 use Rattle.calculus.proofs.Tests.{both}
-use Rattle.eta.specs.Named.{Named, bound, loose, binds, joins, weight, uses, has-zero, lone}
+use Rattle.eta.specs.Named.{Named, bound, loose, binds, joins, weight, lone}
 use Rattle.eta.specs.Shrinking.{ends-in, applied, Came, again, shrunk}
 use Rattle.eta.proofs.Uses.{may-go, Place, as-place, Alike, alike-same, alike-then, alike-binds, alike-joins}
 use Rattle.eta.proofs.Uses.{alike-lone, alike-place, three-nodes}
@@ -42,9 +42,8 @@ module _ (more : ℕ → Bool) where
   alike-way (at-joins w v) = alike-joins (alike-way w) (alike-way v)
 
   -- STEPS AND NODES together do not grow
-  record Lighter (n : ℕ) (τ : Named) (m : ℕ) (σ : Named) : Type 0 where
-    pub later : n ≤ m
-    pub three-each : m + weight σ ≤ n + weight τ
+  abbrev Lighter : (n : ℕ) (τ : Named) (m : ℕ) (σ : Named) → Type 0
+  Lighter n τ m σ = m + weight σ ≤ n + weight τ
 
   lighter-after : {k n m : ℕ} {left left′ : Bool} {b σ : Named} → After k n b left m σ left′
       → Lighter n (binds k b) m σ
@@ -119,20 +118,8 @@ module _ (more : ℕ → Bool) where
   way n τ = ways τ .0 n
 
   -- SO SHRINKING keeps what is named, and takes nodes by steps
-  pub uses-shrunk : (k n : ℕ) (τ : Named) → uses k (shrunk more n τ .1) ≡ uses k τ
-  uses-shrunk k n τ = alike-way (way n τ) .each k
-
-  pub zero-shrunk : (n : ℕ) (τ : Named) → has-zero (shrunk more n τ .1) ≡ has-zero τ
-  zero-shrunk n τ = alike-way (way n τ) .zero-too
-
   pub lone-shrunk : (k n : ℕ) (b : Named) → lone k (shrunk more n b .1) ≡ lone k b
   lone-shrunk k n b = alike-lone k (alike-way (way n b))
 
-  pub steps-rise : (n : ℕ) (τ : Named) → n ≤ shrunk more n τ .0
-  steps-rise n τ = lighter-way (way n τ) .later
-
   pub steps-shrunk : (n : ℕ) (τ : Named) → shrunk more n τ .0 + weight (shrunk more n τ .1) ≤ n + weight τ
-  steps-shrunk n τ = lighter-way (way n τ) .three-each
-
-  pub weight-shrunk : (n : ℕ) (τ : Named) → weight (shrunk more n τ .1) ≤ weight τ
-  weight-shrunk n τ = omega (arith, lighter-way (way n τ))
+  steps-shrunk n τ = lighter-way (way n τ)

@@ -4,16 +4,16 @@ use mathlib.Core.Path.{_≡_, refl, sym, _∙_}
 use mathlib.Core.Bool.{Bool, true, false, cond}
 use mathlib.Core.List.{List}
 use native.Mathlib.Omega.{arith}
-use lib.ListN.{length, set, length-set}
-use lib.Seq.{getD-set-same, getD-set-other}
+use lib.ListN.{length, set}
 use lib.Dec.{eqb}
 use borrow.Author.Tests.{eqb-true, eqb-false}
 use Rattle.calculus.specs.Term.{Term, var, lam, app, nodes, height}
 use Rattle.calculus.specs.Queries.{max-free}
 use Rattle.calculus.specs.Traits.{NotLam, var-not-lam, app-not-lam}
 use Rattle.nodes.specs.Packing.{packed, lowered, settled, kind-in, nodes-in, height-in, free-in, normal-in}
-use Rattle.nodes.specs.Store.{Says, Normal, Holds, Same, word, link, kind, variable, abstraction, application}
+use Rattle.nodes.specs.Store.{Says, Normal, Holds, Same, kind, variable, abstraction, application}
 use Rattle.nodes.proofs.Keeping.{holds-kept}
+use Rattle.nodes.proofs.Stored.{Stored, stored}
 
 -- THE FIRST NUMBER
 -- each part of a packed number has its own place
@@ -131,41 +131,22 @@ module _ (a b : ℕ) where
         (settled-normal l r left right)
 
 -- BOTH NUMBERS
-abbrev with-node : List ℕ → (u w x : ℕ) → List ℕ
-with-node xs u w x = set (set xs (2 * u) w) (2 * u + 1) x
-
-same-before : (xs : List ℕ) (u w x : ℕ) → Same xs (with-node xs u w x) u
-same-before xs u w x = record {
-  as-long = simp length-set;
-  kept = λ k lt.
-      getD-set-other (set xs (2 * u) w) (2 * u + 1) k x 0 (λ e. omega arith)
-      ∙ getD-set-other xs (2 * u) k w 0 (λ e. omega arith);
-}
-
 module _ (xs : List ℕ) (u w x : ℕ) {ys : List ℕ} {next : ℕ} (fits : 2 * u + 2 ≤ length xs)
-    (put : (next ≡ u + 1) × (ys ≡ with-node xs u w x)) where
-  same-made : Same xs ys u
-  same-made = rw (put .1) (same-before xs u w x)
-
-  word-made : word ys u ≡ w
-  word-made =
-      rw (put .1) (getD-set-other (set xs (2 * u) w) (2 * u + 1) (2 * u) x 0 (λ e. omega arith))
-      ∙ getD-set-same xs (2 * u) w 0 (omega arith)
-
-  link-made : link ys u ≡ x
-  link-made = rw (put .1) (getD-set-same (set xs (2 * u) w) (2 * u + 1) x 0 (simp length-set (omega arith)))
+    (put : (next ≡ u + 1) × (ys ≡ set (set xs (2 * u) w) (2 * u + 1) x)) where
+  new : Stored xs ys u w x
+  new = stored xs u w x fits (put .1)
 
   pub variable-made : Says w (var x) → (next ≡ u + 1) × Same xs ys u × Holds ys (var x) u
   unfolding Holds
-  variable-made said = (put .0, same-made, rw (word-made, link-made) (said, refl))
+  variable-made said = (put .0, new .same, rw (new .word-is, new .link-is) (said, refl))
 
   pub abstraction-made : x < u → ((t : Term) → Holds xs t x → Says w (lam t))
       → (next ≡ u + 1) × Same xs ys u × ((t : Term) → Holds xs t x → Holds ys (lam t) u)
   unfolding Holds
   abstraction-made below said = (
     put .0,
-    same-made,
-    λ t h. rw (word-made, link-made) (said t h, below, holds-kept t x same-made below h),
+    new .same,
+    λ t h. rw (new .word-is, new .link-is) (said t h, below, holds-kept t x (new .same) below h),
   )
 
   pub application-made : {m k : ℕ} → x ≡ m + 4294967296 * k → m < u → k < u → u < 4294967296
@@ -176,9 +157,9 @@ module _ (xs : List ℕ) (u w x : ℕ) {ys : List ℕ} {next : ℕ} (fits : 2 * 
       let left-is : x % 4294967296 ≡ m = omega arith in
       let right-is : x / 4294967296 ≡ k = omega arith in (
         put .0,
-        same-made,
+        new .same,
         λ t v h g.
-            let left = holds-kept t m same-made left-below h in
-            let right = holds-kept v k same-made right-below g in
-            rw (word-made, link-made, left-is, right-is) (said t v h g, left-below, right-below, left, right),
+            let left = holds-kept t m (new .same) left-below h in
+            let right = holds-kept v k (new .same) right-below g in
+            rw (new .word-is, new .link-is, left-is, right-is) (said t v h g, left-below, right-below, left, right),
       )

@@ -1,5 +1,5 @@
 -- From the sequences to what `parse` answers: the walk of the whole text, 3 to 9 in their order, and 1 and 2 before.
-use Prim.Native.Nat.{ℕ, _+_, _*_, _≤_}
+use Prim.Native.Nat.{ℕ, _+_, _*_}
 use mathlib.Core.Path.{_≡_, refl, sym, _∙_}
 use mathlib.Core.Bool.{Bool, true, false}
 use mathlib.Core.List.{List, [], _++_}

@@ -4,11 +4,9 @@ use mathlib.Core.Path.{_≡_, refl, ap, _∙_}
 use mathlib.Core.List.{List, _++_}
 use native.Mathlib.Omega.{arith}
 use lib.ListN.{length, take, drop}
-use Rattle.calculus.specs.Term.{Term, var, lam, app, nodes, height}
-use Rattle.calculus.specs.Bounds.{most-nodes, most-height, room-per-node}
+use Rattle.calculus.specs.Term.{Term, nodes, height}
+use Rattle.calculus.specs.Bounds.{room-per-node}
 use Rattle.calculus.specs.Refusal.{refused, _then_, not-abs}
-use Rattle.calculus.specs.Judging.{next-within}
-use Rattle.calculus.specs.Substitution.{contract}
 use Rattle.calculus.specs.Outcomes.{checked, body-of, applied, stored, coded, cleared, apply-of}
 use Rattle.calculus.proofs.Judged.{checked-given}
 use Rattle.calculus.proofs.Measures.{nodes-positive}

@@ -1,6 +1,5 @@
 -- Laws that the proofs of this crate use.
 pub mod Lifting
-pub mod Holding
 pub mod Copying
 pub mod Walking
 pub mod Raised

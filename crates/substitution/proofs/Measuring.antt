@@ -12,7 +12,7 @@ use Rattle.nodes.proofs.Keeping.{says}
 use Rattle.nodes.proofs.Parts.{HeldAbstraction, HeldApplication}
 use Rattle.substitution.specs.Weighing.{deepest, Measurable, Measures}
 use Rattle.substitution.specs.declared.weighing.Measured.{Measured}
-use Rattle.substitution.proofs.Holding.{held-once, is-variable, is-abstraction, is-application}
+use Rattle.nodes.proofs.Holding.{held-once, is-variable, is-abstraction, is-application}
 use Rattle.substitution.proofs.Placed.{put-stays}
 use Rattle.substitution.proofs.Counting.{Variable, index-here, index-other, none-put, within}
 

@@ -18,7 +18,7 @@ use Rattle.nodes.proofs.Keeping.{says}
 use Rattle.nodes.proofs.Parts.{HeldApplication}
 use Rattle.substitution.specs.Weighing.{too-great, Overflowable, Overflows}
 use Rattle.substitution.proofs.Lifting.{by-index}
-use Rattle.substitution.proofs.Holding.{held-once, is-variable, is-abstraction, is-application}
+use Rattle.nodes.proofs.Holding.{held-once, is-variable, is-abstraction, is-application}
 
 -- WHAT IS TOO GREAT
 pub fits-told : (t : Term) → greatest-index t ≤ greatest-number → false ≡ too-great t

@@ -15,7 +15,7 @@ use Rattle.substitution.specs.Raising.{Raisable, Raises}
 use Rattle.substitution.specs.Placing.{Placeable, Places}
 use Rattle.substitution.specs.declared.Made.{Made}
 use Rattle.substitution.proofs.Lifting.{height-raise}
-use Rattle.substitution.proofs.Holding.{held-once, is-variable}
+use Rattle.nodes.proofs.Holding.{held-once, is-variable}
 use Rattle.substitution.proofs.Copying.{Copied, shared, one-fits, new-variable, left-kept}
 use Rattle.substitution.proofs.Walking.{Walks, Copyable, held-body, body-can, lam-asks, lam-copied}
 use Rattle.substitution.proofs.Walking.{parts, left-can, right-can, app-asks, app-copied}

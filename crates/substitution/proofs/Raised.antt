@@ -16,7 +16,7 @@ use Rattle.nodes.proofs.Making.{abstraction-made, application-made}
 use Rattle.substitution.specs.Raising.{lifted, Raisable, Raises}
 use Rattle.substitution.specs.declared.Made.{Made}
 use Rattle.substitution.proofs.Lifting.{raise-stays, height-raise, says-lifted}
-use Rattle.substitution.proofs.Holding.{held-once, is-variable}
+use Rattle.nodes.proofs.Holding.{held-once, is-variable}
 use Rattle.substitution.proofs.Copying.{Copied, shared, one-fits, new-variable, left-kept}
 use Rattle.substitution.proofs.Walking.{Walks, Copyable, held-body, body-is, body-can, lam-asks, lam-copied}
 use Rattle.substitution.proofs.Walking.{parts, parts-are, left-can, right-can, app-asks, app-copied}

@@ -15,7 +15,7 @@ use Rattle.nodes.specs.Store.{word}
 use Rattle.nodes.proofs.Keeping.{says}
 use Rattle.substitution.specs.Weighing.{Measurable, Measures, Occurring, Bursts, Weighable, Weighs}
 use Rattle.substitution.specs.declared.weighing.Measured.{Measured}
-use Rattle.substitution.proofs.Holding.{indices-fit}
+use Rattle.nodes.proofs.Holding.{indices-fit}
 use Rattle.substitution.proofs.Counting.{within}
 
 module _ {room : List ℕ} {body argument : ℕ} (asked : Weighable room body argument)

@@ -1,7 +1,6 @@
 // What a contraction will give, before anything is written: its height, its nodes and whether an index grows too great.
 use calculus::GREATEST_NUMBER;
 use term::larger;
-ghost use mathlib.Core.Path.{_≡_};
 ghost use Rattle.substitution.specs.Weighing.{Measurable, Measures, Overflowable, Overflows, Occurring, Bursts};
 ghost use Rattle.substitution.specs.Weighing.{Weighable, Weighs};
 

@@ -14,9 +14,11 @@ contract-places-requires c κs =
     let at-enum-told = c .before .before in
     let at-check = at-enum-told .before .before in
     let at-shared-slice-known = at-check .before .before .before in
-    let start = at-shared-slice-known .before in
-    (start .pre, check-admits _ _ (at-check .check .ensures) (bytes at-shared-slice-known) (at-enum-told .enum-told
-    .given .1))
+    let start = at-shared-slice-known .before in (
+      start .pre,
+      check-admits _ _ (at-check .check .ensures) (bytes at-shared-slice-known) (at-enum-told .enum-told
+          .given .1),
+    )
 
 returns : tie.Need-returns
 returns c =

@@ -20,8 +20,7 @@ contract-whole-requires c κs =
     let at-check = at-enum-told .before .before in
     let at-shared-slice-known2 = at-check .before .before .before in
     let at-shared-slice-known = at-shared-slice-known2 .before in
-    let start = at-shared-slice-known .before in
-    (
+    let start = at-shared-slice-known .before in (
       start .pre,
       check-admits _ _ (at-check .check .ensures) (bytes at-shared-slice-known) (at-enum-told .enum-told .given .1),
       check-admits _ _ (at-check2 .check2 .ensures) (bytes′ at-shared-slice-known2) (at-enum-told2 .enum-told2 .given .1),

@@ -8,7 +8,7 @@ use borrow.Fn.Kinds.{In}
 use borrow.Fn.PlainCycle.{Measures, is, falls, and}
 use Rattle.term.specs.Heads.{head-in}
 use Rattle.term.specs.declared.Head.the-variants.{Variable, Abstraction, Application}
-use Rattle.eta.proofs.Stored.{stored}
+use Rattle.nodes.proofs.Stored.{stored}
 use Rattle.eta.proofs.Loaded.{some-made, counts-length, variable-inside, variable-asks, at-variable, at-nothing}
 use Rattle.eta.proofs.Loaded.{depth-low, body-asks, binder-fits, at-abstraction}
 use Rattle.eta.proofs.Loaded.{left-asks, right-asks, parts-made, application-fits, at-application}

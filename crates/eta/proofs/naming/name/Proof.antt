@@ -3,7 +3,8 @@ use Prim.Native.Nat.{_-_}
 use mathlib.Core.Path.{refl}
 use native.Mathlib.Omega.{arith}
 use borrow.Author.Needs.{needs}
-use Rattle.eta.proofs.Stored.{stored, bound-stored, loose-stored}
+use Rattle.nodes.proofs.Stored.{stored}
+use Rattle.eta.proofs.Remade.{bound-stored, loose-stored}
 use Rattle.eta.proofs.Variables.{called-zero, called-loose, called-bound}
 use Rattle.eta.proofs.Counting.{counts-loose, counts-bound}
 use Rattle.eta.proofs.naming.name.Statement.{statement}

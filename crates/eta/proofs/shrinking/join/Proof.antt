@@ -1,7 +1,7 @@
 -- `eta::shrinking::join` meets its contract.
 use native.Mathlib.Omega.{arith}
 use borrow.Author.Needs.{needs}
-use Rattle.eta.proofs.Stored.{stored}
+use Rattle.nodes.proofs.Stored.{stored}
 use Rattle.eta.proofs.Remaking.{join-stays, join-made}
 use Rattle.eta.proofs.shrinking.join.Statement.{statement}
 use Rattle.eta.proofs.shrinking.join.Tie as tie

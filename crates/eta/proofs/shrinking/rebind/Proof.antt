@@ -1,7 +1,7 @@
 -- `eta::shrinking::rebind` meets its contract.
 use native.Mathlib.Omega.{arith}
 use borrow.Author.Needs.{needs}
-use Rattle.eta.proofs.Stored.{stored}
+use Rattle.nodes.proofs.Stored.{stored}
 use Rattle.eta.proofs.Remaking.{rebind-stays, rebind-made}
 use Rattle.eta.proofs.shrinking.rebind.Statement.{statement}
 use Rattle.eta.proofs.shrinking.rebind.Tie as tie
