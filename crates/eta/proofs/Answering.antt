@@ -25,7 +25,8 @@ use Rattle.term.specs.Answers.{refusal-of}
 use Rattle.term.specs.Surveys.{Admitted}
 use Rattle.term.specs.declared.Refusal.{Refusal}
 use Rattle.term.proofs.Places.{size-within}
-use Rattle.nodes.specs.Lending.{granted-told, granting, run-told, Lent}
+use Rattle.nodes.specs.Answers.{granted-told, granting, run-told}
+use Rattle.nodes.specs.Lending.{Lent}
 use Rattle.nodes.specs.declared.lending.Granted.{Granted}
 use Rattle.nodes.specs.declared.lending.Granted.the-variants as granted
 use Rattle.nodes.specs.declared.lending.Run.{Run}
@@ -37,7 +38,7 @@ use Rattle.eta.specs.Shrinking.{Came, shrunk}
 use Rattle.eta.specs.Naming.{Nameable, Reads}
 use Rattle.eta.specs.Shrinks.{Shrinkable, Shrinks}
 use Rattle.eta.specs.Writing.{Placed, Writable, Writes}
-use Rattle.eta.specs.Answers.{Works}
+use Rattle.eta.specs.Running.{Works}
 use Rattle.eta.specs.declared.naming.Read.{Read}
 use Rattle.eta.specs.declared.shrinking.Shrunk.{Shrunk}
 use Rattle.eta.proofs.Levels.{scoped-named, plain-named, weight-named}

@@ -3,7 +3,7 @@ use Prim.Native.Nat.{ℕ}
 use mathlib.Core.Path.{_≡_, sym, ap, _∙_}
 use mathlib.Core.List.{List}
 use Rattle.calculus.specs.Outcomes.{eta-of}
-use Rattle.nodes.specs.Lending.{run-told}
+use Rattle.nodes.specs.Answers.{run-told}
 use Rattle.nodes.specs.declared.lending.Run.{Run}
 use Rattle.nodes.proofs.Unique.{one-run}
 

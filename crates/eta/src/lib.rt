@@ -15,8 +15,9 @@ ghost use mathlib.Core.Path.{_≡_};
 ghost use Rattle.calculus.specs.Eta.{eta};
 ghost use Rattle.calculus.specs.Outcomes.{checked, run-on, eta-of};
 ghost use Rattle.term.specs.Surveys.{Admitted};
-ghost use Rattle.nodes.specs.Lending.{Lent, run-told};
-ghost use Rattle.eta.specs.Answers.{Works};
+ghost use Rattle.nodes.specs.Answers.{run-told};
+ghost use Rattle.nodes.specs.Lending.{Lent};
+ghost use Rattle.eta.specs.Running.{Works};
 
 // One number for each binder that can be open at once: a term is no higher than this.
 const LEVELS: usize = 512;

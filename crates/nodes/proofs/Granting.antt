@@ -16,7 +16,8 @@ use Rattle.calculus.proofs.Tests.{both, in-interval}
 use Rattle.term.specs.Answers.{refusal-of}
 use Rattle.term.specs.declared.Refusal.{Refusal}
 use Rattle.term.specs.declared.Refusal.the-variants.{OutsideBounds, TooLittleRoom}
-use Rattle.nodes.specs.Lending.{granted-told, granting, Lent}
+use Rattle.nodes.specs.Answers.{granted-told, granting}
+use Rattle.nodes.specs.Lending.{Lent}
 use Rattle.nodes.specs.declared.lending.Granted.{Granted}
 use Rattle.nodes.specs.declared.lending.Granted.the-variants.{Cap, Refused}
 

@@ -3,7 +3,7 @@ use Prim.Native.Nat.{ℕ}
 use mathlib.Core.Path.{_≡_, refl, ap}
 use Rattle.calculus.specs.Runs as calculus
 use Rattle.term.proofs.Unique.{refusal-from, refusal-back, answer-from, one-by}
-use Rattle.nodes.specs.Lending.{granted-told, granting, run-told}
+use Rattle.nodes.specs.Answers.{granted-told, granting, run-told}
 use Rattle.nodes.specs.declared.lending.Granted.{Granted}
 use Rattle.nodes.specs.declared.lending.Granted.the-variants.{Cap, Refused}
 use Rattle.nodes.specs.declared.lending.Run.{Run}

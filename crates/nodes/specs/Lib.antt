@@ -2,4 +2,5 @@
 pub mod Packing
 pub mod Store
 pub mod Coded
+pub mod Answers
 pub mod Lending

@@ -4,7 +4,7 @@ use calculus::OUTPUT_PER_NODE;
 use calculus::ROOM_PER_NODE;
 use term::Refusal;
 ghost use mathlib.Core.Path.{_≡_};
-ghost use Rattle.nodes.specs.Lending.{granted-told, granting};
+ghost use Rattle.nodes.specs.Answers.{granted-told, granting};
 
 // The cap as a length, or 1 or 2.
 pub enum Granted {

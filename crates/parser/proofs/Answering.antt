@@ -24,7 +24,8 @@ use Rattle.words.specs.declared.Cursor.{Cursor}
 use Rattle.words.specs.declared.Judged.the-variants as judged
 use Rattle.words.specs.Ahead.{words-at}
 use Rattle.words.proofs.Ahead.{ahead-start}
-use Rattle.nodes.specs.Lending.{granted-told, granting, Lent}
+use Rattle.nodes.specs.Answers.{granted-told, granting}
+use Rattle.nodes.specs.Lending.{Lent}
 use Rattle.nodes.specs.declared.lending.Granted.{Granted}
 use Rattle.nodes.specs.declared.lending.Granted.the-variants as granted
 use Rattle.nodes.proofs.Granting.{not-granted, Passed, answered}

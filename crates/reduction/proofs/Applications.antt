@@ -20,7 +20,8 @@ use Rattle.term.specs.declared.Refusal.the-variants.{NotAbs}
 use Rattle.term.proofs.Places.{is-variable, is-abstraction, is-application, is-something, size-within}
 use Rattle.nodes.specs.Store.{Holds}
 use Rattle.nodes.specs.Coded.{Loadable, Loads}
-use Rattle.nodes.specs.Lending.{granted-told, granting, Lent}
+use Rattle.nodes.specs.Answers.{granted-told, granting}
+use Rattle.nodes.specs.Lending.{Lent}
 use Rattle.nodes.specs.declared.Loaded.{Loaded}
 use Rattle.nodes.specs.declared.lending.Granted.{Granted}
 use Rattle.nodes.specs.declared.lending.Granted.the-variants as granted

@@ -6,7 +6,7 @@ use lib.ListN.{length}
 use Rattle.calculus.specs.Term.{Term}
 use Rattle.calculus.specs.Runs as calculus
 use Rattle.calculus.specs.Outcomes.{stored-run}
-use Rattle.nodes.specs.Lending.{run-told}
+use Rattle.nodes.specs.Answers.{run-told}
 use Rattle.nodes.specs.declared.lending.Run.{Run}
 
 -- the answer, and what it leaves in the output, are those of a run; the store is as long as before
