@@ -184,7 +184,8 @@ module _ (more : ℕ → Bool) where
       let c : Counted = while-possible more (suc tries) n t in
       let w = while-comes (suc tries) n t in
       comes-after (w .way)
-      (parts-come tries (c .0) (c .1) (omega (arith, nodes-taken (w .way .steps))) (eta-from more tries) (eta-comes tries))
+      (parts-come tries (c .0) (c .1) (omega (arith, nodes-taken (w .way .steps))) (eta-from more tries)
+      (eta-comes tries))
 
 -- HOW A RUN ENDS: no step may follow just where a limit is reached
 may-not : (limit n : ℕ) → may-follow limit n ≡ false → (0 < limit) × (limit ≤ n)

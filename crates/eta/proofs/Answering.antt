@@ -29,8 +29,8 @@ use Rattle.nodes.specs.Answers.{granted-told, granting, run-told}
 use Rattle.nodes.specs.Lending.{Lent}
 use Rattle.nodes.specs.declared.lending.Granted.{Granted}
 use Rattle.nodes.specs.declared.lending.Granted.the-variants as granted
-use Rattle.nodes.specs.declared.lending.Run.{Run}
-use Rattle.nodes.specs.declared.lending.Run.the-variants as run
+use Rattle.nodes.specs.declared.runs.Run.{Run}
+use Rattle.nodes.specs.declared.runs.Run.the-variants as run
 use Rattle.nodes.proofs.Granting.{not-granted, Passed, answered}
 use Rattle.eta.specs.Named.{named, plain, levels}
 use Rattle.eta.specs.Scope.{Among, first, later, Scoped}

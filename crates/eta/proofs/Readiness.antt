@@ -58,6 +58,13 @@ pub ready-place : {xs : List ℕ} {n : ℕ} (k : ℕ) (alone : Bool) (b : Named)
 ready-place k true b e h = ends-place k b e h
 ready-place k false b e h = absurd (false≢true e)
 
+-- what an application applies to lies inside
+pub last-inside : {room : List ℕ} {body : ℕ} → kind-in (word room body) ≡ 3 → Checkable room body
+    → 2 * (link room body / 4294967296) + 2 ≤ length room
+last-inside {room} {body} joined asked =
+    let v = named-application room body (asked .term) joined (asked .names) in
+    omega (arith, asked .inside, v .right-below)
+
 module _ {room : List ℕ} {w body : ℕ} where
   pub never : w / 4 % 2 ≡ 0 → Ready room w body false
   never even = record { tells = λ k alone b is-binder h. rw (not-lone k alone is-binder even) }
@@ -68,12 +75,6 @@ module _ {room : List ℕ} {w body : ℕ} where
   }
 
   module _ (joined : kind-in (word room body) ≡ 3) where
-    -- what the body is applied to lies inside
-    pub last-inside : Checkable room w body → 2 * (link room body / 4294967296) + 2 ≤ length room
-    last-inside asked =
-        let v = named-application room body (asked .term) joined (asked .names) in
-        omega (arith, asked .inside, v .right-below)
-
     module _ {last : ℕ} (is-last : last ≡ link room body / 4294967296) where
       pub no-variable : (kind-in (word room last) ≡ 0 → ⊥) → Ready room w body false
       no-variable other = record {

@@ -10,7 +10,7 @@ use Rattle.nodes.proofs.Keeping.{same-refl}
 use Rattle.eta.specs.Named.{Named, binds, joins, lone}
 use Rattle.eta.specs.Shrinking.{Came, ends-in, again}
 use Rattle.eta.specs.Store.{Names, binder-word}
-use Rattle.eta.specs.Shrinks.{Stands-for, Checkable, Ready, Joinable, Joins, Bindable, Rebinds, Binds}
+use Rattle.eta.specs.Shrinks.{StandsFor, Checkable, Ready, Joinable, Joins, Bindable, Rebinds, Binds}
 use Rattle.eta.specs.declared.shrinking.Shrunk.{Shrunk}
 use Rattle.nodes.proofs.Stored.{Stored}
 use Rattle.eta.proofs.Remade.{binds-stored, joins-stored}
@@ -25,7 +25,7 @@ module _ {room : List ℕ} {node : ℕ} {left right : Shrunk} (asked : Joinable 
       → n < next → right .used ≤ next → next ≤ right .used + 1 → Same room after (right .used)
       → Joins room node left right (record { node = n; used = next; steps = right .steps; left = some }) after
   joined both below grows most same = record {
-    comes = λ l m c d h first second. record {
+    comes = λ c d first second. record {
       steps = second .steps;
       names = both (c .1) (d .1) (first .names) (second .names);
       left = told ∙ ap₂ _||_ (first .left) (second .left);
@@ -92,25 +92,21 @@ module _ {room : List ℕ} {node : ℕ} {body : Shrunk} (asked : Bindable room n
       rebound (λ k b kind. binds-stored new k b kind (asked .stands .below)) (omega arith) (omega arith) (omega arith)
       (new .same)
 
-  pub bind-checks : Checkable room (word room node) (body .node)
-  unfolding Names
+  pub bind-checks : Checkable room (body .node)
   bind-checks = record {
-    level = asked .level;
-    alone = lone (asked .level) (asked .body-term);
-    is-binder = asked .names .0;
     term = asked .came .1;
     names = asked .stands .names;
     inside = omega (arith, asked .stands .below, asked .fits);
   }
 
   module _ {ready : Bool} (tells : Ready room (word room node) (body .node) ready) where
-    is-place : (k : ℕ) (b : Named) (c : Came) → Names room (binds k b) node → Stands-for room body c
+    is-place : (k : ℕ) (b : Named) (c : Came) → Names room (binds k b) node → StandsFor room body c
         → (lone k b && ends-in k (c .1)) ≡ ready
     unfolding Names
     is-place k b c h done = sym (tells .tells k (lone k b) (c .1) (h .0) (done .names))
 
     stayed : {limit : ℕ} {left : Bool} {r : Shrunk} {after : List ℕ} → Rebinds room node body left r after
-        → ((k : ℕ) (b : Named) (c : Came) → Names room (binds k b) node → Stands-for room body c
+        → ((k : ℕ) (b : Named) (c : Came) → Names room (binds k b) node → StandsFor room body c
         → again (may-follow limit) k (lone k b) c ≡ (c .0, binds k (c .1), left))
         → Binds room node body limit r after
     stayed stays told = record {

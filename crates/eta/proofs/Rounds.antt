@@ -12,7 +12,7 @@ use Rattle.nodes.proofs.Keeping.{same-refl, same-then}
 use Rattle.eta.specs.Named.{Named, bound, loose, binds, joins, weight, lone}
 use Rattle.eta.specs.Shrinking.{Came, shrunk, ends-in, applied}
 use Rattle.eta.specs.Store.{Names}
-use Rattle.eta.specs.Shrinks.{Shrinkable, Shrinks, Stands-for, Checkable, Ready, Joinable, Joins}
+use Rattle.eta.specs.Shrinks.{Shrinkable, Shrinks, StandsFor, Checkable, Ready, Joinable, Joins}
 use Rattle.eta.specs.Shrinks.{Bindable, Binds}
 use Rattle.eta.specs.declared.shrinking.Shrunk.{Shrunk}
 use Rattle.eta.proofs.Kept.{names-kept}
@@ -20,8 +20,8 @@ use Rattle.eta.proofs.Parts.{Abstraction, Application, named-abstractio
 use Rattle.eta.proofs.Readiness.{Applies, ready-place}
 use Rattle.eta.proofs.Ways.{lone-shrunk, steps-shrunk, shrunk-binds, shrunk-place}
 
-stands-kept : {xs ys : List ℕ} {u : ℕ} {r : Shrunk} (c : Came) → Same xs ys u → r .used ≤ u → Stands-for xs r c
-    → Stands-for ys r c
+stands-kept : {xs ys : List ℕ} {u : ℕ} {r : Shrunk} (c : Came) → Same xs ys u → r .used ≤ u → StandsFor xs r c
+    → StandsFor ys r c
 stands-kept {r = r} c same le h = record {
   steps = h .steps;
   names = names-kept (c .1) (r .node) same (omega (arith, h .below)) (h .names);
@@ -144,10 +144,10 @@ module _ {room : List ℕ} {node used steps : ℕ} (asked : Shrinkable room node
               let c = shrunk (may-follow limit) steps (v .left) in
               let d = shrunk (may-follow limit) (c .0) (v .right) in
               let l-came = first .comes (v .left) (left-names v) in
-              let r-came : Stands-for end right d =
+              let r-came : StandsFor end right d =
               rw (sym (l-came .steps)) (second .comes (v .right) (right-names v)) in
               let l-kept = stands-kept c (second .same) (omega arith) l-came in
-              rw (v .same) (done .comes (v .left) (v .right) c d (whole-kept v h) l-kept r-came);
+              rw (v .same) (done .comes c d l-kept r-came);
           most = λ t h. omega (arith, both-made (named-application room node t joined h), done .most);
           grows = omega (arith, first .grows, second .grows, done .grows);
           same = same-then (omega (arith, first .grows, second .grows)) both-same (done .same);
@@ -158,11 +158,8 @@ module _ {room : List ℕ} {node used steps : ℕ} (asked : Shrinkable room node
     body : Abstraction room node (asked .term)
     body = named-abstraction room node (asked .term) binder (asked .names)
 
-    pub ready-asks : Checkable room (word room node) (link room node)
+    pub ready-asks : Checkable room (link room node)
     ready-asks = record {
-      level = body .level;
-      alone = lone (body .level) (body .body);
-      is-binder = body .word-is;
       term = body .body;
       names = body .names;
       inside = omega (arith, asked .below, asked .fits, body .below);

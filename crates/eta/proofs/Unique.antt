@@ -4,7 +4,7 @@ use mathlib.Core.Path.{_≡_, sym, ap, _∙_}
 use mathlib.Core.List.{List}
 use Rattle.calculus.specs.Outcomes.{eta-of}
 use Rattle.nodes.specs.Answers.{run-told}
-use Rattle.nodes.specs.declared.lending.Run.{Run}
+use Rattle.nodes.specs.declared.runs.Run.{Run}
 use Rattle.nodes.proofs.Unique.{one-run}
 
 pub one-eta : (limit cap : ℕ) (s out room : List ℕ) {r q : Run} {after other left remaining : List ℕ}

@@ -22,6 +22,7 @@ pub record Countable (counts : List ℕ) (depth more : ℕ) : Type 0 where
   pub long : length counts ≡ most-height
   pub few : (k : ℕ) → k < depth → getD counts k 0 + more ≤ 4 * most-nodes
 
+-- some term stands at an offset, and there is room for its nodes and its counts
 pub record Nameable (s : List ℕ) (at : ℕ) (room : List ℕ) (used : ℕ) (counts : List ℕ) (depth : ℕ) : Type 0 where
   pub term : Term
   pub stands : Stands s at term

@@ -5,6 +5,7 @@ use lib.ListN.{length}
 use Rattle.calculus.specs.Bounds.{most-height, greatest-number}
 use Rattle.eta.specs.Named.{Named, bound, loose, binds, joins}
 
+-- a binder is one of those around
 pub data Among (k : ℕ) : List ℕ → Type 0 where
   first : {around : List ℕ} → Among k (k ∷ around)
   later : {m : ℕ} {around : List ℕ} → Among k around → Among k (m ∷ around)

@@ -32,6 +32,7 @@ again more k alone c =
     (cond (more (c .0)) (suc (c .0), applied (c .1), c .2) (c .0, binds k (c .1), true))
     (c .0, binds k (c .1), c .2)
 
+-- an application once its parts are done
 abbrev pub beside : Came → Came → Came
 beside c d = (d .0, joins (c .1) (d .1), c .2 || d .2)
 
@@ -41,6 +42,7 @@ unfolding uses has-zero
 either-way more k n b before after =
     cond (lone k b && ends-in k b && more n) before (again more k (lone k b) after)
 
+-- the whole sequence: at a node contract while possible, then do the parts, left first, then contract again
 unfoldable pub shrunk : (more : ℕ → Bool) → ℕ → Named → Came
 unfolding uses has-zero
 shrunk more n (bound k) = (n, bound k, false)

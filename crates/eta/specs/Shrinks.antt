@@ -22,17 +22,14 @@ pub record Shrinkable (room : List ℕ) (node used steps : ℕ) : Type 0 where
   pub counted : steps + weight term ≤ 4 * most-nodes
 
 -- a node, with the steps and whether a place is left, is what a named term came to
-pub record Stands-for (room : List ℕ) (r : Shrunk) (c : Came) : Type 0 where
+pub record StandsFor (room : List ℕ) (r : Shrunk) (c : Came) : Type 0 where
   pub steps : r .steps ≡ c .0
   pub names : Names room (c .1) (r .node)
   pub left : r .left ≡ c .2
   pub below : r .node < r .used
 
--- AN ABSTRACTION'S FIRST NUMBER, and a node that is or may be its body
-pub record Checkable (room : List ℕ) (w body : ℕ) : Type 0 where
-  pub level : ℕ
-  pub alone : Bool
-  pub is-binder : w ≡ binder-word level alone
+-- A NODE THAT MAY BE A BODY, held against an abstraction's first number
+pub record Checkable (room : List ℕ) (body : ℕ) : Type 0 where
   pub term : Named
   pub names : Names room term body
   pub inside : 2 * body + 2 ≤ length room
@@ -53,9 +50,7 @@ pub record Joinable (room : List ℕ) (node : ℕ) (left right : Shrunk) : Type 
   pub few : right .used ≤ 4 * most-nodes
 
 pub record Joins (before : List ℕ) (node : ℕ) (left right r : Shrunk) (after : List ℕ) : Type 0 where
-  pub comes : (l m : Named) (c d : Came) → Names before (joins l m) node → Stands-for before left c
-      → Stands-for before right d
-      → Stands-for after r (beside c d)
+  pub comes : (c d : Came) → StandsFor before left c → StandsFor before right d → StandsFor after r (beside c d)
   pub most : r .used ≤ right .used + 1
   pub grows : right .used ≤ r .used
   pub same : Same before after (right .used)
@@ -66,7 +61,7 @@ pub record Bindable (room : List ℕ) (node : ℕ) (body : Shrunk) : Type 0 wher
   pub body-term : Named
   pub names : Names room (binds level body-term) node
   pub came : Came
-  pub stands : Stands-for room body came
+  pub stands : StandsFor room body came
   pub below : node < body .used
   pub fits : 2 * body .used + 2 ≤ length room
   pub few : body .used ≤ 4 * most-nodes
@@ -75,9 +70,9 @@ pub record Bindable (room : List ℕ) (node : ℕ) (body : Shrunk) : Type 0 wher
 -- it stays
 pub record Rebinds (before : List ℕ) (node : ℕ) (body : Shrunk) (left : Bool) (r : Shrunk) (after : List ℕ) :
     Type 0 where
-  pub comes : (k : ℕ) (b : Named) (c : Came) → Names before (binds k b) node → Stands-for before body c
+  pub comes : (k : ℕ) (b : Named) (c : Came) → Names before (binds k b) node → StandsFor before body c
       → lone k (c .1) ≡ lone k b
-      → Stands-for after r (c .0, binds k (c .1), left)
+      → StandsFor after r (c .0, binds k (c .1), left)
   pub most : r .used ≤ body .used + 1
   pub grows : body .used ≤ r .used
   pub same : Same before after (body .used)
@@ -85,16 +80,16 @@ pub record Rebinds (before : List ℕ) (node : ℕ) (body : Shrunk) (left : Bool
 -- it stays or goes
 pub record Binds (before : List ℕ) (node : ℕ) (body : Shrunk) (limit : ℕ) (r : Shrunk) (after : List ℕ) :
     Type 0 where
-  pub comes : (k : ℕ) (b : Named) (c : Came) → Names before (binds k b) node → Stands-for before body c
+  pub comes : (k : ℕ) (b : Named) (c : Came) → Names before (binds k b) node → StandsFor before body c
       → lone k (c .1) ≡ lone k b
-      → Stands-for after r (again (may-follow limit) k (lone k b) c)
+      → StandsFor after r (again (may-follow limit) k (lone k b) c)
   pub most : r .used ≤ body .used + 1
   pub grows : body .used ≤ r .used
   pub same : Same before after (body .used)
 
 -- whatever named term the node is, it comes to what it shrinks to, and the nodes before are as they were
 pub record Shrinks (before : List ℕ) (node used steps limit : ℕ) (r : Shrunk) (after : List ℕ) : Type 0 where
-  pub comes : (t : Named) → Names before t node → Stands-for after r (shrunk (may-follow limit) steps t)
+  pub comes : (t : Named) → Names before t node → StandsFor after r (shrunk (may-follow limit) steps t)
   pub most : (t : Named) → Names before t node → r .used ≤ used + weight t
   pub grows : used ≤ r .used
   pub same : Same before after used

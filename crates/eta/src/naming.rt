@@ -12,12 +12,21 @@ ghost use Rattle.eta.specs.Named.{named};
 ghost use Rattle.eta.specs.Store.{Names, binder-word};
 ghost use Rattle.eta.specs.Naming.{Counts, Countable, Nameable, Reads};
 
-// The kinds of nodes but abstractions: a variable that a binder binds, one that none does, an application.
+// The kinds of nodes: a variable that a binder binds, one that none does, an abstraction, an application.
 const BOUND: u64 = 0;
 
 const LOOSE: u64 = 1;
 
-const JOINS: u64 = 3;
+const BINDS: u64 = 2;
+
+pub(crate) const JOINS: u64 = 3;
+
+// In an abstraction's first number: a lone binder adds this much, and each level of it that much.
+pub(crate) const LONE: u64 = 4;
+
+pub(crate) const LEVEL: u64 = 8;
+
+const LONE_BINDS: u64 = 6;
 
 // The offset after a term, the number of the next node (the term is the one before it), and whether index 0 is in it.
 pub struct Read {
@@ -32,12 +41,12 @@ fn binder_word(level: usize, count: u64, zero: bool) -> u64
     ensures { λ r. ⌜ r ≡ binder-word level (eqb count 1 && not zero) ⌝ }
 {
     if count != 1 {
-        return 2 + 8 * (level as u64);
+        return BINDS + LEVEL * (level as u64);
     }
     if zero {
-        return 2 + 8 * (level as u64);
+        return BINDS + LEVEL * (level as u64);
     }
-    6 + 8 * (level as u64)
+    LONE_BINDS + LEVEL * (level as u64)
 }
 
 // A variable under so many binders; the one that binds it is counted.

@@ -1,10 +1,11 @@
 // Eta's sequence of places on nodes that name their binders: a contraction drops an abstraction; nothing else moves.
+use crate::naming::JOINS;
+use crate::naming::LEVEL;
+use crate::naming::LONE;
 ghost use mathlib.Core.Path.{_≡_};
 ghost use Rattle.calculus.specs.Eta.{may-follow};
 ghost use Rattle.eta.specs.Shrinks.{Shrinkable, Shrinks, Checkable, Ready, Joinable, Joins};
 ghost use Rattle.eta.specs.Shrinks.{Bindable, Rebinds, Binds};
-
-const JOINS: u64 = 3;
 
 // The node that a term came to, the number of the next node, the steps made, and whether the limit left a place.
 pub struct Shrunk {
@@ -26,20 +27,20 @@ fn may_follow(limit: u64, steps: u64) -> bool
 
 // Whether an abstraction of which this is the first number is a place, with this body: lone, and applied to its binder.
 fn ready(room: &[u64], w: u64, body: usize) -> bool
-    requires { ⌜ Checkable (now room) w body ⌝ }
+    requires { ⌜ Checkable (now room) body ⌝ }
     ensures { λ r. ⌜ Ready (now (room .entry)) w body r ⌝ }
 {
-    if w / 4 % 2 == 0 {
+    if w / LONE % 2 == 0 {
         return false;
     }
-    if nodes::kind_of(room[2 * body]) != 3 {
+    if nodes::kind_of(room[2 * body]) != JOINS {
         return false;
     }
     let last = nodes::right_of(room[2 * body + 1]);
     if nodes::kind_of(room[2 * last]) != 0 {
         return false;
     }
-    room[2 * last + 1] == w / 8
+    room[2 * last + 1] == w / LEVEL
 }
 
 // An application whose parts are done: the same node if both stayed.
@@ -129,7 +130,7 @@ pub fn shrink(room: &mut [u64], node: usize, used: usize, steps: u64, limit: u64
             left: false,
         };
     }
-    if kind == 3 {
+    if kind == JOINS {
         let left = shrink(room, nodes::left_of(x), used, steps, limit);
         let right = shrink(room, nodes::right_of(x), left.used, left.steps, limit);
         return join(room, node, left, right);

@@ -1,4 +1,5 @@
 // The bytes of a named term: each variable's index is counted from its binder among those that stayed.
+use crate::naming::LEVEL;
 ghost use Prim.Native.Nat.{_+_, _≤_};
 ghost use lib.ListN.{length};
 ghost use Rattle.calculus.specs.Term.{var};
@@ -6,6 +7,7 @@ ghost use Rattle.calculus.specs.Bytes.{encode};
 ghost use Rattle.calculus.proofs.Putting.{Puts};
 ghost use Rattle.eta.specs.Writing.{Writable, Writes};
 
+// Kind 1 and the eight bytes of the index.
 fn write_variable(out: &mut [u8], at: usize, index: u64) -> usize
     requires { ⌜ at + 9 ≤ length (now out) ⌝ }
     ensures { λ r. ⌜ Puts (now (out .entry)) at (encode (var index)) r (now (out .exit)) ⌝ }
@@ -41,7 +43,7 @@ pub fn write(
     }
     if kind == 2 {
         out[at] = 2;
-        places[(w / 8) as usize] = depth;
+        places[(w / LEVEL) as usize] = depth;
         return write(room, x as usize, out, at + 1, places, depth + 1);
     }
     out[at] = 3;

@@ -104,7 +104,8 @@ module _ (limit limit′ cap cap′ : ℕ) (s out out′ room room′ : List ℕ
   repeated o {n} {size} h k allowed enough e = again (says-finished o limit cap s out room e)
     where
       again : {left : List ℕ} → SaysFinished o limit cap s n size left
-          → reduce-of o limit′ cap′ s out′ room′ ≡ (finished n size, laid-over (take size left) out′, cleared cap′ room′)
+          → reduce-of o limit′ cap′ s out′ room′
+          ≡ (finished n size, laid-over (take size left) out′, cleared cap′ room′)
       again f =
           let few : n ≤ limit′ = omega (arith, f .few) in
           means-reduce limit′ cap′ s out′ room′ o

@@ -1,4 +1,4 @@
--- ONE ANSWER: what the enums of `lending` mean tells which case it is, so any two answers with one meaning are the same.
+-- ONE ANSWER: what these enums mean tells which case it is, so any two answers with one meaning are the same.
 use Prim.Native.Nat.{ℕ}
 use mathlib.Core.Path.{_≡_, refl, ap}
 use Rattle.calculus.specs.Runs as calculus
@@ -6,8 +6,8 @@ use Rattle.term.proofs.Unique.{refusal-from, refusal-back, answer-from, one-by}
 use Rattle.nodes.specs.Answers.{granted-told, granting, run-told}
 use Rattle.nodes.specs.declared.lending.Granted.{Granted}
 use Rattle.nodes.specs.declared.lending.Granted.the-variants.{Cap, Refused}
-use Rattle.nodes.specs.declared.lending.Run.{Run}
-use Rattle.nodes.specs.declared.lending.Run.the-variants as run
+use Rattle.nodes.specs.declared.runs.Run.{Run}
+use Rattle.nodes.specs.declared.runs.Run.the-variants as run
 
 granted-back : (r : Granted) → answer-from Cap Refused (granted-told r) ≡ r
 unfolding granted-told

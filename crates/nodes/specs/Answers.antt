@@ -9,8 +9,8 @@ use Rattle.calculus.specs.Outcomes.{cap-allowed}
 use Rattle.term.specs.Answers.{refusal-of}
 use Rattle.nodes.specs.declared.lending.Granted.{Granted}
 use Rattle.nodes.specs.declared.lending.Granted.the-variants.{Cap, Refused}
-use Rattle.nodes.specs.declared.lending.Run.{Run}
-use Rattle.nodes.specs.declared.lending.Run.the-variants as run
+use Rattle.nodes.specs.declared.runs.Run.{Run}
+use Rattle.nodes.specs.declared.runs.Run.the-variants as run
 
 unfoldable pub granted-told : Granted → Answer ℕ
 granted-told (Cap most) = given most

@@ -1,5 +1,6 @@
 // Numbered nodes in lent room, two numbers each: how they are made, loaded from coded bytes, saved to them and cleared.
 pub mod lending;
+pub mod runs;
 
 use calculus::ROOM_PER_NODE;
 use term::Head;
@@ -21,12 +22,12 @@ const NODES: u64 = 4;
 
 const HEIGHT: u64 = 1048576;
 
-const FREE: u64 = 1073741824;
+pub const FREE: u64 = 1073741824;
 
 const NORMAL: u64 = 1099511627776;
 
 // The bound on free indices that says nothing.
-const UNKNOWN: u64 = 1023;
+pub const UNKNOWN: u64 = 1023;
 
 // A second number holds two parts: the right one stands for this much.
 const RIGHT: u64 = 4294967296;

@@ -152,7 +152,8 @@ fn print_whole(style: Style, nodes: u64, s: &[u8], out: &mut [u8]) -> Printed
 
 // The input's refusals, then 13.
 pub fn print(notation: Notation, s: &[u8], out: &mut [u8]) -> Printed
-    ensures { λ r. ⌜ (printed-told r, now (out .exit)) ≡ print-of (notation-of notation) (now (s .entry)) (now (out .entry)) ⌝ }
+    ensures { λ r. ⌜ (printed-told r, now (out .exit))
+        ≡ print-of (notation-of notation) (now (s .entry)) (now (out .entry)) ⌝ }
 {
     match term::check(MOST_NODES, s) {
         Checked::Refused(why) => Printed::Refused(why),

@@ -166,12 +166,14 @@ module _ {s : List ℕ} {at room : ℕ} (st : Low s at room) where
     unfolding height
     right-low =
         let x = is-application (st .begins .term) h (st .begins .stands) in
-        let (alike, end, rs, ru) = left-same h k left e (st .begins .term) (su .term) (st .begins .stands) (su .stands) in
+        let (alike, end, rs, ru) =
+        left-same h k left e (st .begins .term) (su .term) (st .begins .stands) (su .stands) in
         stands-low rs (omega (arith, st .low, ap height (x .same)))
 
     pub right-begins : Begins u mid
     right-begins =
-        let (alike, end, rs, ru) = left-same h k left e (st .begins .term) (su .term) (st .begins .stands) (su .stands) in
+        let (alike, end, rs, ru) =
+        left-same h k left e (st .begins .term) (su .term) (st .begins .stands) (su .stands) in
         term-begins ru
 
 -- THE ANSWER for two inputs

@@ -1,4 +1,4 @@
-// Times the queries at 1,000, 10,000 and 65,536 nodes: the times go to standard error, the right answers to standard output.
+// Times the queries at 1,000, 10,000 and 65,536 nodes: times go to standard error, right answers to standard output.
 use libc::STDERR_FILENO;
 use libc::STDOUT_FILENO;
 use queries::Number;

@@ -57,7 +57,8 @@ module _ {cap : ℕ} {store : List ℕ} {used body argument : ℕ} {out : List �
     -- what 12 says of whatever terms the two are
     fine : (b a : Term) → Holds store b body → Holds store a argument → {over : Bool} → weight .bursts ≡ over
         → leb (greatest-index (contract b a)) greatest-number ≡ not over
-    fine b a h k {over} e = flipped (leb (greatest-index (contract b a)) greatest-number) over (sym (weighs .bursts b a h k) ∙ e)
+    fine b a h k {over} e =
+        flipped (leb (greatest-index (contract b a)) greatest-number) over (sym (weighs .bursts b a h k) ∙ e)
 
     pub at-overflow : weight .bursts ≡ true → Contracts cap store body argument out (Refused IndexTooGreat) store out
     unfolding next-within

@@ -15,8 +15,8 @@ use Rattle.reduction.specs.Answers.{applied-told}
 use Rattle.reduction.specs.declared.Applied.{Applied}
 
 -- the answer, and what it leaves in the output, are those of a term that is given or refused; the store is as long
-pub record Works (reads : Answer Term) (before store : List ℕ) (r : Applied) (after store′ : List ℕ) : Type 0 where
-  pub stores : (applied-told r, after) ≡ stored (reads then coded) before
+pub record Works (gives : Answer Term) (before store : List ℕ) (r : Applied) (after store′ : List ℕ) : Type 0 where
+  pub stores : (applied-told r, after) ≡ stored (gives then coded) before
   pub as-long : length store′ ≡ length store
 
 -- two nodes that are terms within the bounds, and room for one more

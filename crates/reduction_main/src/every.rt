@@ -217,7 +217,7 @@ fn show_etas(places: bool) {
 }
 
 pub(crate) fn contracted() {
-    say(b"-- eta of every term of up to seven nodes, indices 0 to 3\n");
+    say(b"-- eta of every term of up to seven marks, each a node, indices 0 to 3\n");
     show_etas(false);
     say(
         b"-- eta of every term of up to seven marks, indices 1 to 3; an abstraction of an application is one mark\n",

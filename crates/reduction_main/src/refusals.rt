@@ -53,17 +53,17 @@ fn show_bytes(name: &[u8], s: &[u8], cap: u64) {
     let fine = samples::first(&buf, end);
     apply(name, s, b"", fine, plenty(cap));
     apply(b"", fine, name, s, plenty(cap));
-    apply(name, s, b"2 2 2 4", b"\x02\x02\x02\x04", plenty(cap));
+    apply(name, s, b"bytes 2 2 2 4", b"\x02\x02\x02\x04", plenty(cap));
     eta(name, s, 18446744073709551615, plenty(cap));
 }
 
 pub(crate) fn broken() {
     say(b"-- 10\n");
     show_bytes(b"nothing", b"", USUAL_CAP);
-    show_bytes(b"1 1 0 0 0 0 0 0", b"\x01\x01\0\0\0\0\0\0", USUAL_CAP);
-    show_bytes(b"2 1", b"\x02\x01", USUAL_CAP);
+    show_bytes(b"bytes 1 1 0 0 0 0 0 0", b"\x01\x01\0\0\0\0\0\0", USUAL_CAP);
+    show_bytes(b"bytes 2 1", b"\x02\x01", USUAL_CAP);
     show_bytes(
-        b"2 3 and a variable",
+        b"bytes 2 3 and a variable",
         b"\x02\x03\x01\x01\0\0\0\0\0\0\0",
         USUAL_CAP,
     );
@@ -71,14 +71,14 @@ pub(crate) fn broken() {
 
 pub(crate) fn left_over() {
     show_bytes(
-        b"a variable and 1",
+        b"a variable and byte 1",
         b"\x01\x01\0\0\0\0\0\0\0\x01",
         USUAL_CAP,
     );
-    show_bytes(b"0", b"\0", USUAL_CAP);
-    show_bytes(b"2 4", b"\x02\x04", USUAL_CAP);
+    show_bytes(b"byte 0", b"\0", USUAL_CAP);
+    show_bytes(b"bytes 2 4", b"\x02\x04", USUAL_CAP);
     show_bytes(
-        b"3 3 and a variable and 255",
+        b"bytes 3 3, a variable and byte 255",
         b"\x03\x03\x01\x01\0\0\0\0\0\0\0\xff",
         USUAL_CAP,
     );
@@ -125,7 +125,7 @@ fn apply_no_abstraction(text: &[u8], cap: u64) {
     let end = coded(text, &mut s);
     let top = samples::twig(&mut tower, 0, 512, 0, 1);
     let no_abstraction = samples::first(&s, end);
-    apply(b"", no_abstraction, b"2 1", b"\x02\x01", plenty(cap));
+    apply(b"", no_abstraction, b"bytes 2 1", b"\x02\x01", plenty(cap));
     apply(
         b"",
         no_abstraction,

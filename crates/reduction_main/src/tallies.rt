@@ -3,7 +3,7 @@ use crate::telling::FILLED;
 use crate::telling::FILLED_NUMBER;
 use crate::telling::number;
 use crate::telling::say;
-use nodes::lending::Run;
+use nodes::runs::Run;
 use reduction::Applied;
 use term::Refusal;
 

@@ -2,7 +2,7 @@
 use calculus::MOST_NODES;
 use calculus::ROOM_PER_NODE;
 use libc::STDOUT_FILENO;
-use nodes::lending::Run;
+use nodes::runs::Run;
 use printer::Printed;
 use reduction::Applied;
 use term::Notation;

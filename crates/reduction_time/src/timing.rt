@@ -1,7 +1,7 @@
 // Calls `eta` or `apply` on one case again and again: the answer, and the least time.
 use libc::STDERR_FILENO;
 use libc::STDOUT_FILENO;
-use nodes::lending::Run;
+use nodes::runs::Run;
 use reduction::Applied;
 
 // What is timed.

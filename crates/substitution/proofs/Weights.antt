@@ -67,11 +67,13 @@ module _ {room : List ℕ} {body argument : ℕ} (asked : Weighable room body ar
         pub at-end : ((k : ℕ) → getD room k 0 < 2 ^ 64) → {bursts : Bool}
             → Bursts room argument (found .deepest) bursts
             → Weighs room body argument (record {
+              copies = found .copies;
               bursts = bursts;
               height = found .height;
               nodes = all - found .copies + found .copies * one;
             })
         at-end fit told = record {
+          copies-are = λ b h. measured .copies b h;
           bursts = λ b a h g. told .tells b a g (measured .deepest-at b h) (indices-fit room body b fit h);
           height-is = λ b a h g. measured .height-is b a h (sym (tall-is ∙ says room a argument g .height-is));
           nodes-are = λ b a h g.

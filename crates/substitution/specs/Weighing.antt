@@ -22,6 +22,7 @@ deepest d (app l r) = max (deepest d l) (deepest d r)
 abbrev pub too-great : Term → Bool
 too-great t = not (leb (greatest-index t) greatest-number)
 
+-- a node that is some term, and a height that some term has
 pub record Measurable (room : List ℕ) (node depth tall : ℕ) : Type 0 where
   pub term : Term
   pub holds : Holds room term node
@@ -38,6 +39,7 @@ pub record Measures (room : List ℕ) (node depth tall : ℕ) (r : Measured) : T
   pub deepest-at : (t : Term) → Holds room t node → r .deepest ≡ deepest depth t
   pub height-is : (t a : Term) → Holds room t node → height a ≡ tall → r .height ≡ height (put depth a t)
 
+-- a node that is some term
 pub record Overflowable (room : List ℕ) (node amount depth : ℕ) : Type 0 where
   pub term : Term
   pub holds : Holds room term node
@@ -45,6 +47,7 @@ pub record Overflowable (room : List ℕ) (node amount depth : ℕ) : Type 0 whe
   pub deep : depth + height term ≤ 1022
   pub little : amount ≤ 1022
 
+-- whether raising whatever term it is takes an index past the greatest number
 pub record Overflows (room : List ℕ) (node amount depth : ℕ) (r : Bool) : Type 0 where
   pub tells : (t : Term) → Holds room t node → r ≡ too-great (raise amount depth t)
 
@@ -63,6 +66,7 @@ pub record Bursts (room : List ℕ) (argument place : ℕ) (r : Bool) : Type 0 w
   pub tells : (b a : Term) → Holds room a argument → place ≡ deepest 0 b → greatest-index b ≤ greatest-number
       → r ≡ too-great (contract b a)
 
+-- two nodes that are terms within the bounds
 pub record Weighable (room : List ℕ) (body argument : ℕ) : Type 0 where
   pub term : Term
   pub put-term : Term
@@ -77,6 +81,7 @@ pub record Weighable (room : List ℕ) (body argument : ℕ) : Type 0 where
 
 -- whatever terms the two are: 12, 7 and 9 of the contraction can be judged without making it
 pub record Weighs (room : List ℕ) (body argument : ℕ) (r : Weight) : Type 0 where
+  pub copies-are : (b : Term) → Holds room b body → r .copies ≡ occurs 0 b
   pub bursts : (b a : Term) → Holds room b body → Holds room a argument → r .bursts ≡ too-great (contract b a)
   pub height-is : (b a : Term) → Holds room b body → Holds room a argument → r .height ≡ height (contract b a)
   pub nodes-are : (b a : Term) → Holds room b body → Holds room a argument → r .nodes ≡ nodes (contract b a)

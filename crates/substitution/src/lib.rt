@@ -1,15 +1,12 @@
 // Contraction over shared nodes: free indices raised, the argument put in, and what the result will measure.
 pub mod weighing;
 
+use nodes::FREE;
+use nodes::UNKNOWN;
 ghost use mathlib.Core.Path.{_≡_};
 ghost use Prim.Native.Nat.{_≤_};
 ghost use Rattle.substitution.specs.Raising.{lifted, Raisable, Raises};
 ghost use Rattle.substitution.specs.Placing.{Placeable, Places};
-
-// How much the bound on free indices stands for in a node's first number, and the bound that says nothing.
-const FREE: u64 = 1073741824;
-
-const UNKNOWN: u64 = 1023;
 
 // The node that a term is, and the number of the next node.
 pub struct Made {

@@ -1,5 +1,6 @@
 // What a contraction will give, before anything is written: its height, its nodes and whether an index grows too great.
 use calculus::GREATEST_NUMBER;
+use nodes::UNKNOWN;
 use term::larger;
 ghost use Rattle.substitution.specs.Weighing.{Measurable, Measures, Overflowable, Overflows, Occurring, Bursts};
 ghost use Rattle.substitution.specs.Weighing.{Weighable, Weighs};
@@ -57,13 +58,13 @@ fn measure(room: &[u64], node: usize, depth: u64, height: u64) -> Measured
     }
 }
 
-// Whether raising takes an index of the node's term past the greatest number: no bound that says anything lets it.
+// Whether raising takes an index of the node's term past the greatest number: a bound below 1023 rules it out.
 fn overflows(room: &[u64], node: usize, amount: u64, depth: u64) -> bool
     requires { ⌜ Overflowable (now room) node amount depth ⌝ }
     ensures { λ r. ⌜ Overflows (now (room .entry)) node amount depth r ⌝ }
 {
     let w = room[2 * node];
-    if nodes::free_of(w) < 1023 {
+    if nodes::free_of(w) < UNKNOWN {
         return false;
     }
     let x = room[2 * node + 1];
@@ -94,8 +95,10 @@ fn bursts(room: &[u64], argument: usize, deepest: u64) -> bool
     overflows(room, argument, deepest - 1, 0)
 }
 
-// What a contraction gives: whether an index grows past the greatest number (12), the height (7), the nodes (9).
+// What a contraction gives: how often the argument is put in, whether an index grows past the greatest number (12), the
+// height (7), the nodes (9).
 pub struct Weight {
+    pub copies: u64,
     pub bursts: bool,
     pub height: u64,
     pub nodes: u64,
@@ -114,6 +117,7 @@ pub fn weigh(room: &[u64], body: usize, argument: usize) -> Weight
     let bursts = bursts(room, argument, found.deepest);
     let nodes = left + copies * nodes::nodes_of(w);
     Weight {
+        copies,
         bursts,
         height,
         nodes,

@@ -86,7 +86,8 @@ module _ {s : List ℕ} {at d room : ℕ} where
         rw (v .same) (reached (omega arith) (rw (same, facts-lam d b)) (omega arith));
   }
 
-  pub body-over : {e : ℕ} {r : Survey} → head-in (drop at s) ≡ Abstraction → Surveys s (at + 1) e (room - 1) r → r ≡ Over
+  pub body-over : {e : ℕ} {r : Survey} → head-in (drop at s) ≡ Abstraction → Surveys s (at + 1) e (room - 1) r
+      → r ≡ Over
       → Surveys s at d room Over
   unfolding height
   body-over h body k = record {

@@ -62,7 +62,9 @@ unfolding check-told
 checked-back (Whole facts) = refl
 checked-back (Refused why) = ap Refused (refusal-back why)
 
-pub one-check : (cap : ℕ) (s : List ℕ) {r q : Checked} → check-told r ≡ check-of cap s → check-told q ≡ check-of cap s → r ≡ q
+pub one-check : (cap : ℕ) (s : List ℕ) {r q : Checked} → check-told r ≡ check-of cap s
+    → check-told q ≡ check-of cap s
+    → r ≡ q
 one-check cap s e k = one-by check-told (answer-from Whole Refused) checked-back e k
 
 pub one-head : (s : List ℕ) (at : ℕ) {r q : Head} → r ≡ head-in (drop at s) → q ≡ head-in (drop at s) → r ≡ q

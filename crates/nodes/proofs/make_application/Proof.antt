@@ -50,8 +50,8 @@ returns c =
       at-nodes-of .nodes-of .ensures,
     ) in
     let said = says-application a b (omega arith) (omega arith) in
-    application-made xs (x .used) _ _ (omega arith) (at-put .put .ensures) (at-pair .pair .ensures) (omega arith) (omega arith)
-    (omega arith) (λ t u h k. rw word-is (said t u (says xs t (x .left) h) (says xs u (x .right) k)))
+    application-made xs (x .used) _ _ (omega arith) (at-put .put .ensures) (at-pair .pair .ensures) (omega arith)
+    (omega arith) (omega arith) (λ t u h k. rw word-is (said t u (says xs t (x .left) h) (says xs u (x .right) k)))
 
 pub make-application-spec : {M : Type 1} → statement M
 make-application-spec =

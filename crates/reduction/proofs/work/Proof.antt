@@ -23,7 +23,8 @@ contract-whole-requires c κs =
     let start = at-shared-slice-known .before in (
       start .pre,
       check-admits _ _ (at-check .check .ensures) (bytes at-shared-slice-known) (at-enum-told .enum-told .given .1),
-      check-admits _ _ (at-check2 .check2 .ensures) (bytes′ at-shared-slice-known2) (at-enum-told2 .enum-told2 .given .1),
+      check-admits _ _ (at-check2 .check2 .ensures) (bytes′ at-shared-slice-known2)
+          (at-enum-told2 .enum-told2 .given .1),
     )
 
 returns : tie.Need-returns
@@ -39,7 +40,8 @@ returns-2 c =
     let at-enum-told = at-check2 .before in
     let at-check = at-enum-told .before .before in
     let at-shared-slice-known = at-check .before .before .before .before in
-    let first = check-admits _ _ (at-check .check .ensures) (bytes at-shared-slice-known) (at-enum-told .enum-told .given .1) in
+    let whole = at-enum-told .enum-told .given .1 in
+    let first = check-admits _ _ (at-check .check .ensures) (bytes at-shared-slice-known) whole in
     second-refused _ _ _ first (check-refused _ _ (at-check2 .check2 .ensures) (at-why2 .why2 .given .1))
 
 pub work-spec : {M : Type 1} → statement M
