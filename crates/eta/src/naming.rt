@@ -29,10 +29,10 @@ pub(crate) const LEVEL: u64 = 8;
 const LONE_BINDS: u64 = 6;
 
 // The offset after a term, the number of the next node (the term is the one before it), and whether index 0 is in it.
-pub struct Read {
-    pub next: usize,
-    pub used: usize,
-    pub zero: bool,
+pub(crate) struct Read {
+    pub(crate) next: usize,
+    pub(crate) used: usize,
+    pub(crate) zero: bool,
 }
 
 // An abstraction's first number: its binder is lone if it is named once and index 0 is not in the body.
@@ -69,7 +69,7 @@ fn name(room: &mut [u64], used: usize, counts: &mut [u64], depth: usize, index: 
 }
 
 // The term whose bytes stand at an offset, under so many binders, made of new nodes.
-pub fn load(
+pub(crate) fn load(
     s: &[u8],
     at: usize,
     room: &mut [u64],

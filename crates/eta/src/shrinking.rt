@@ -8,11 +8,11 @@ ghost use Rattle.eta.specs.Shrinks.{Shrinkable, Shrinks, Checkable, Read
 ghost use Rattle.eta.specs.Shrinks.{Bindable, Rebinds, Binds};
 
 // The node that a term came to, the number of the next node, the steps made, and whether the limit left a place.
-pub struct Shrunk {
-    pub node: usize,
-    pub used: usize,
-    pub steps: u64,
-    pub left: bool,
+pub(crate) struct Shrunk {
+    pub(crate) node: usize,
+    pub(crate) used: usize,
+    pub(crate) steps: u64,
+    pub(crate) left: bool,
 }
 
 // Whether one more step may follow: limit 0 is none.
@@ -115,7 +115,7 @@ fn bind(room: &mut [u64], node: usize, body: Shrunk, limit: u64) -> Shrunk
 }
 
 // At a node contract while possible; then do the parts, left first; then, at an abstraction, contract again.
-pub fn shrink(room: &mut [u64], node: usize, used: usize, steps: u64, limit: u64) -> Shrunk
+pub(crate) fn shrink(room: &mut [u64], node: usize, used: usize, steps: u64, limit: u64) -> Shrunk
     requires { ⌜ Shrinkable (now room) node used steps ⌝ }
     ensures { λ r. ⌜ Shrinks (now (room .entry)) node used steps limit r (now (room .exit)) ⌝ }
 {

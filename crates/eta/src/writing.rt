@@ -17,7 +17,7 @@ fn write_variable(out: &mut [u8], at: usize, index: u64) -> usize
 }
 
 // The term that a node is, under so many binders; the place after its bytes is returned.
-pub fn write(
+pub(crate) fn write(
     room: &[u64],
     node: usize,
     out: &mut [u8],
