@@ -4,6 +4,7 @@ pub mod Measures
 pub mod Substituting
 pub mod Growth
 pub mod NextStep
+pub mod Spines
 pub mod Equality
 pub mod Coding
 pub mod Sizes

@@ -1,10 +1,12 @@
 -- Tests of numbers as equations, and functions that agree because their tables do.
 use Prim.Native.Nat.{ℕ, zero, suc, _≤_, _<_}
-use mathlib.Core.Path.{_≡_, refl, ap}
+use mathlib.Core.Path.{_≡_, refl, sym, ap, _∙_}
 use mathlib.Core.Bool.{Bool, true, false, _&&_, _||_, not, true≢false, false≢true}
+use mathlib.Core.Logic.{_↔_}
 use mathlib.Core.List.{List, [], _∷_}
 use native.Mathlib.Omega.{arith}
 use native.Mathlib.Decide.{decLe, decLt}
+use lib.Dec.{leb}
 use borrow.Author.Tests.{le-leb, lt-leb}
 use Rattle.calculus.specs.Numbers.{between}
 
@@ -25,6 +27,18 @@ both false b e = absurd (false≢true e)
 pub neither : (a b : Bool) → (a || b) ≡ false → (a ≡ false) × (b ≡ false)
 neither true b e = absurd (true≢false e)
 neither false b e = (refl, e)
+
+-- two tests agree if each bound implies the other
+pub same-bound : (a b c d : ℕ) → (a ≤ b) ↔ (c ≤ d) → leb a b ≡ leb c d
+same-bound a b c d (f, g) =
+    elim (decLe a b) [
+      | yes h ↦ le-leb a b h ∙ sym (le-leb c d (f h))
+      | no h ↦
+          elim (decLe c d) [
+            | yes k ↦ absurd (h (g k))
+            | no k ↦ lt-leb a b (omega arith) ∙ sym (lt-leb c d (omega arith))
+          ]
+    ]
 
 -- what the test of an interval tells
 pub data Interval (low high n : ℕ) : Bool → Type 0 where

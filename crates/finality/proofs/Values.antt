@@ -6,16 +6,16 @@ use mathlib.Core.Logic.{inl, inr, _↔_}
 use mathlib.Core.Option.{Option, none, some}
 use Rattle.calculus.specs.Term.{Term, var, lam, app}
 use Rattle.finality.specs.Beta.{Many, done, next}
-use Rattle.calculus.specs.Orders.{Order, CBN, HSP, CBV, APP, NOR, HNO, HAP, enters, step}
+use Rattle.calculus.specs.Orders.{Order, enters, step}
 use Rattle.calculus.specs.Ends.{Steps, stay, go}
 use Rattle.calculus.specs.Traits.{spine, eager, hybrid, late, NotLam}
 use Rattle.calculus.proofs.NextStep.{Unless, Stuck, Goes}
 use Rattle.calculus.proofs.NextStep.{Next, at-spine, at-early, at-here, at-left, at-late, nowhere, step-next}
 use Rattle.calculus.proofs.NextStep.{NextBody, at-body, no-body, body-next}
+use Rattle.calculus.proofs.Spines.{clash, not-lam, stuck-var, keeps, hybrid-late, late-hybrid}
 use Rattle.finality.specs.Sestoft.{Big, big-var, big-whole, big-body, big-name, big-value, big-head, big-pair}
 use Rattle.finality.specs.Sestoft.{big-hybrid}
-use Rattle.finality.proofs.Finishing.{big-finishes}
-use Rattle.finality.proofs.Finishing.{true-or-false, clash, not-lam, hybrid-late, stuck-var, keeps}
+use Rattle.finality.proofs.Finishing.{big-finishes, true-or-false}
 use Rattle.finality.specs.Finished.{Finished}
 
 -- what it says of L R, or of an abstraction, that no step is left
@@ -102,10 +102,6 @@ same-left hyb h n g k same (big-head p q f _) = absurd (false≢true (sym p ∙ 
 same-left hyb h n g k same (big-pair p q f _ a) = absurd (false≢true (sym p ∙ hyb))
 same-left {o} {l} hyb h n g k same (big-hybrid {n = w} p f _ b a) =
     big-hybrid p (stuck-big (spine o) l h) n (same w (rw (big-still f g) b)) a
-
-late-hybrid : (o : Order) → late o ≡ true → hybrid o ≡ true
-late-hybrid =
-    elim [ CBN ↦ λ e. e | HSP ↦ λ e. e | CBV ↦ λ e. e | APP ↦ λ e. e | NOR ↦ λ e. e | HNO ↦ λ e. e | HAP ↦ λ _. refl ]
 
 -- the values of a term are those of its next term
 abbrev Expands : Term → Type 0
