@@ -1,15 +1,13 @@
 -- From the named term to what `eta` answers: the input's refusals, the run, and 1 and 2 before.
 use Prim.Native.Nat.{ℕ, _+_, _-_, _*_, _≤_, _<_}
-use mathlib.Core.Path.{_≡_, refl, ap, ap₂, _∙_}
+use mathlib.Core.Path.{_≡_, refl, ap, _∙_}
 use mathlib.Core.Bool.{true, false, cond}
 use mathlib.Core.List.{List, [], _++_}
 use native.Mathlib.Omega.{arith}
-use native.Mathlib.Nat.{zero-add}
 use lib.ListN.{length, take, drop}
 use Rattle.calculus.specs.Term.{Term, nodes, height}
 use Rattle.calculus.specs.Bounds.{most-height, room-per-node}
 use Rattle.calculus.specs.Bytes.{encode}
-use Rattle.calculus.specs.Refusal.{refused}
 use Rattle.calculus.specs.Runs as calculus
 use Rattle.calculus.specs.Runs.{finished, unfinished, refused-after}
 use Rattle.calculus.specs.Eta.{eta, may-follow, eta-from}
@@ -19,9 +17,8 @@ use Rattle.calculus.proofs.EtaRuns.{eta-comes, nodes-taken}
 use Rattle.calculus.proofs.Judged.{checked-given}
 use Rattle.calculus.proofs.Lowering.{eta-smaller}
 use Rattle.calculus.proofs.Measures.{nodes-positive}
-use Rattle.calculus.proofs.Putting.{Puts, laid}
-use Rattle.calculus.proofs.Sizes.{length-encode, nine-per-node, size-positive}
-use Rattle.term.specs.Answers.{refusal-of}
+use Rattle.calculus.proofs.Putting.{Puts}
+use Rattle.calculus.proofs.Sizes.{nine-per-node, size-positive}
 use Rattle.term.specs.Surveys.{Admitted}
 use Rattle.term.specs.declared.Refusal.{Refusal}
 use Rattle.term.proofs.Places.{size-within}
@@ -31,6 +28,7 @@ use Rattle.nodes.specs.declared.lending.Granted.{Granted}
 use Rattle.nodes.specs.declared.lending.Granted.the-variants as granted
 use Rattle.nodes.specs.declared.runs.Run.{Run}
 use Rattle.nodes.specs.declared.runs.Run.the-variants as run
+use Rattle.nodes.proofs.Ending.{ends-stored}
 use Rattle.nodes.proofs.Granting.{not-granted, Passed, answered}
 use Rattle.eta.specs.Named.{named, plain, levels}
 use Rattle.eta.specs.Scope.{Among, first, later, Scoped}
@@ -38,7 +36,7 @@ use Rattle.eta.specs.Shrinking.{Came, shrunk}
 use Rattle.eta.specs.Naming.{Nameable, Reads}
 use Rattle.eta.specs.Shrinks.{Shrinkable, Shrinks}
 use Rattle.eta.specs.Writing.{Placed, Writable, Writes}
-use Rattle.eta.specs.Running.{Works}
+use Rattle.nodes.specs.Working.{Works}
 use Rattle.eta.specs.declared.naming.Read.{Read}
 use Rattle.eta.specs.declared.shrinking.Shrunk.{Shrunk}
 use Rattle.eta.proofs.Levels.{scoped-named, plain-named, weight-named}
@@ -160,16 +158,10 @@ module _ {cap : ℕ} {s out store : List ℕ} (lent : Lent cap out store) (input
             let stands = shrinks .comes (named 0 (input .term)) (reads .names (input .term) (input .stands)) in
             rw (stands .steps, stands .left) (eta-whole limit (input .term) (input .small) low)
 
-        -- however it ended
         stored-there : (end : ℕ → calculus.Run ℕ)
             → _≡_ {A = calculus.Run ℕ × List ℕ} (end to, after)
             (end (length (encode reached)), laid-over (encode reached) out)
-        stored-there end =
-            let (fewer, _) = no-larger in
-            let fits : length (encode reached) ≤ length out =
-            omega (arith, length-encode reached, nine-per-node reached, few, lent .output) in
-            ap₂ (λ k bytes. (end k, bytes)) (written .reached ∙ zero-add (length (encode reached)))
-            (written .stored ∙ laid (encode reached) out fits)
+        stored-there = ends-stored cap reached (omega (arith, no-larger .0, few)) (lent .output) written
 
         pub at-unfinished : done .left ≡ true
             → Works (run-on (checked cap s) (eta limit)) out store (run.Unfinished (done .steps) to) after end
@@ -186,13 +178,6 @@ module _ {cap : ℕ} {s out store : List ℕ} (lent : Lent cap out store) (input
           stores = rw (input .passes, runs, left) (stored-there (finished (done .steps)));
           as-long = shrinks .same .as-long ∙ reads .same .as-long;
         }
-
--- THE INPUT'S REFUSALS
-pub input-refused : (cap limit : ℕ) (s : List ℕ) {out store : List ℕ} {why : Refusal}
-    → checked cap s ≡ refused (refusal-of why)
-    → Works (run-on (checked cap s) (eta limit)) out store (run.Refused 0 why) out store
-unfolding run-told
-input-refused cap limit s e = record { stores = rw e; as-long = refl }
 
 -- 1 AND 2, and the work after them
 module _ (limit cap : ℕ) (s out room : List ℕ) where

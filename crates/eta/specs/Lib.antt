@@ -6,4 +6,3 @@ pub mod Store
 pub mod Naming
 pub mod Shrinks
 pub mod Writing
-pub mod Running

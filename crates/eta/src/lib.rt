@@ -17,7 +17,7 @@ ghost use Rattle.calculus.specs.Outcomes.{checked, run-on, eta-of};
 ghost use Rattle.term.specs.Surveys.{Admitted};
 ghost use Rattle.nodes.specs.Answers.{run-told};
 ghost use Rattle.nodes.specs.Lending.{Lent};
-ghost use Rattle.eta.specs.Running.{Works};
+ghost use Rattle.nodes.specs.Working.{Works};
 
 // One number for each binder that can be open at once: a term is no higher than this.
 const LEVELS: usize = 512;

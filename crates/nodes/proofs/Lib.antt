@@ -9,3 +9,4 @@ pub mod Coding
 pub mod Saving
 pub mod Granting
 pub mod Unique
+pub mod Ending

@@ -4,3 +4,4 @@ pub mod Store
 pub mod Coded
 pub mod Answers
 pub mod Lending
+pub mod Working

@@ -1,7 +1,7 @@
 -- `eta::work` meets its contract: the input is checked first.
 use Rattle.calculus.proofs.Coding.{AllBytes}
 use Rattle.term.proofs.Checking.{check-admits, check-refused}
-use Rattle.eta.proofs.Answering.{input-refused}
+use Rattle.nodes.proofs.Ending.{input-refused}
 use borrow.Author.Needs.{needs}
 use Rattle.eta.proofs.work.Statement.{statement}
 use Rattle.eta.proofs.work.Tie as tie
