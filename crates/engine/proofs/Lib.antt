@@ -1,0 +1,12 @@
+-- Laws that the proofs of the engine use.
+pub mod Parts
+pub mod Frames
+pub mod Contractions
+pub mod Joins
+pub mod Phases
+pub mod Runs
+pub mod Redexes
+pub mod Places
+pub mod Renewing
+pub mod Stepping
+pub mod Ending
