@@ -1,4 +1,5 @@
 -- Laws that the proofs of this crate use.
 pub mod Contracting
 pub mod Applications
+pub mod Reductions
 pub mod Unique

@@ -1,9 +1,14 @@
--- ONE OUTCOME: any two outcomes that the statement of `apply` allows are the same, both buffers included.
+-- ONE OUTCOME: any two outcomes that the statement of `apply` or `reduce` allows are the same, both buffers included.
 use Prim.Native.Nat.{ℕ}
 use mathlib.Core.Path.{_≡_, refl, sym, ap, _∙_}
 use mathlib.Core.List.{List}
-use Rattle.calculus.specs.Outcomes.{apply-of}
+use Rattle.calculus.specs.Outcomes.{apply-of, reduce-of}
 use Rattle.term.proofs.Unique.{refusal-back, answer-from, one-by}
+use Rattle.nodes.specs.Answers.{run-told}
+use Rattle.nodes.specs.declared.runs.Run.{Run}
+use Rattle.nodes.proofs.Unique.{one-run}
+use Rattle.orders.specs.Orders.{order-of}
+use Rattle.orders.specs.declared.Order.{Order}
 use Rattle.reduction.specs.Answers.{applied-told}
 use Rattle.reduction.specs.declared.Applied.{Applied}
 use Rattle.reduction.specs.declared.Applied.the-variants.{Length, Refused}
@@ -18,6 +23,17 @@ pub one-apply : (cap : ℕ) (s u out room : List ℕ) {r q : Applied} {after oth
     → (applied-told q, other, remaining) ≡ apply-of cap s u out room → (r ≡ q) × (after ≡ other) × (left ≡ remaining)
 one-apply cap s u out room e k = (
   one-by applied-told (answer-from Length Refused) applied-back (ap (λ x. x .0) e) (ap (λ x. x .0) k),
+  ap (λ x. x .1) (e ∙ sym k),
+  ap (λ x. x .2) (e ∙ sym k),
+)
+
+pub one-reduce : (order : Order) (limit cap : ℕ) (s out room : List ℕ) {r q : Run}
+    {after other left remaining : List ℕ}
+    → (run-told r, after, left) ≡ reduce-of (order-of order) limit cap s out room
+    → (run-told q, other, remaining) ≡ reduce-of (order-of order) limit cap s out room
+    → (r ≡ q) × (after ≡ other) × (left ≡ remaining)
+one-reduce order limit cap s out room e k = (
+  one-run (ap (λ x. x .0) e) (ap (λ x. x .0) k),
   ap (λ x. x .1) (e ∙ sym k),
   ap (λ x. x .2) (e ∙ sym k),
 )

@@ -1,4 +1,6 @@
 // Applying one coded term to another: the answer is the bytes of the contraction, or why there is none.
+pub mod reducing;
+
 use calculus::MOST_HEIGHT;
 use calculus::ROOM_PER_NODE;
 use nodes::lending::Granted;
