@@ -1,0 +1,2 @@
+-- The demands, of the functions' own outcomes.
+pub mod Final
