@@ -10,7 +10,7 @@ use Rattle.calculus.specs.Refusal.{undefined-free-variable, too-high, em
 use Rattle.calculus.specs.Refusal.{not-a-term, not-abs, index-too-great}
 use Rattle.calculus.specs.Bytes.{encode, decode}
 use Rattle.calculus.specs.Judging.{next-within}
-use Rattle.calculus.specs.Orders.{NOR, CBN}
+use Rattle.calculus.specs.Orders.{CBN, HSP, CBV, APP, NOR, HNO, HAP}
 use Rattle.calculus.specs.Runs.{finished, unfinished, refused-after}
 use Rattle.calculus.specs.Reading.{de-bruijn, classic, read-text}
 use Rattle.calculus.specs.Writing.{write-text, name-text}
@@ -64,6 +64,14 @@ calls =
     ∷ reduce NOR 1 "(\\\\1)[FFFFFFFFFFFFFFFF]" gives runs (finished 1 (lam (var 1)))
     -- 9 while reducing
     ∷ reduce CBN 9 "(\\1111)(123456)" gives runs (refused-after 0 too-many-nodes)
+    -- CBN and CBV leave the body of an abstraction alone, the others go on in it
+    ∷ reduce CBN 9 "\\(\\1)1" gives runs (finished 0 (lam (app (lam (var 1)) (var 1))))
+    ∷ reduce CBV 9 "\\(\\1)1" gives runs (finished 0 (lam (app (lam (var 1)) (var 1))))
+    ∷ reduce HSP 9 "\\(\\1)1" gives runs (finished 1 (lam (var 1)))
+    ∷ reduce APP 9 "\\(\\1)1" gives runs (finished 1 (lam (var 1)))
+    ∷ reduce NOR 9 "\\(\\1)1" gives runs (finished 1 (lam (var 1)))
+    ∷ reduce HNO 9 "\\(\\1)1" gives runs (finished 1 (lam (var 1)))
+    ∷ reduce HAP 9 "\\(\\1)1" gives runs (finished 1 (lam (var 1)))
     -- eta is finished where no place is left, also at its limit
     ∷ eta 1 "\\21" gives runs (finished 1 (var 1))
     ∷ eta 1 "\\\\321" gives runs (unfinished 1 (lam (app (var 2) (var 1))))
