@@ -2,7 +2,7 @@
 ghost use Prim.Native.Nat.{_≤_};
 
 // Writes a byte and moves on; at the end of the buffer it does neither.
-fn put(buf: &mut [u8], at: usize, b: u8) -> usize {
+pub fn put(buf: &mut [u8], at: usize, b: u8) -> usize {
     if at < buf.len() {
         buf[at] = b;
         at + 1
