@@ -2,8 +2,10 @@
 pub mod Parts
 pub mod Frames
 pub mod Contractions
+pub mod Weighed
 pub mod Joins
 pub mod Phases
+pub mod AtOnce
 pub mod Runs
 pub mod Redexes
 pub mod Places

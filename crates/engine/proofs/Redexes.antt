@@ -14,17 +14,49 @@ use Rattle.calculus.specs.Substitution.{contract}
 use Rattle.calculus.specs.Ends.{go-on, stay-so}
 use Rattle.calculus.proofs.NextStep.{next-step, at-here, shape}
 use Rattle.nodes.specs.Packing.{kind-in}
-use Rattle.nodes.specs.Store.{Holds, word, kind}
-use Rattle.nodes.proofs.Keeping.{says, same-then}
+use Rattle.nodes.specs.Store.{Holds, Same, word, kind}
+use Rattle.nodes.proofs.Keeping.{holds-kept, says, same-then}
 use Rattle.nodes.proofs.Parts.{HeldAbstraction}
 use Rattle.nodes.proofs.Holding.{is-abstraction}
 use Rattle.engine.specs.Running.{Start, most, Stops, rested, stepped, spent, full, refuses, moved, Ran}
-use Rattle.engine.specs.Joining.{Here, Resting}
+use Rattle.engine.specs.Joining.{Together, together, apart, Parts, Here, Resting}
 use Rattle.engine.specs.Contracting as contracting
 use Rattle.engine.specs.Contracting.{Redex, most-of, Contracted, Makes, Why, made, not-made}
 use Rattle.engine.specs.declared.contracting.State.{State}
 use Rattle.engine.proofs.Frames.{accepted-then, Neutral, rests-plain}
 use Rattle.engine.proofs.Phases.{tells-above, unused, Halts}
+
+-- what is written behind the nodes that are used changes nothing
+together-kept : {steps depth : ℕ} {a : Start} {left right used : ℕ} {room after : List ℕ} → a .node < used
+    → Same room after used → Together steps depth a left right used room → Together steps depth a left right used after
+together-kept {a = a} below same (together none-made left-is right-is used-is) =
+    let link-same = same .kept (2 * a .node + 1) (omega arith) in
+    together none-made (rw link-same left-is) (rw link-same right-is) used-is
+together-kept below same (apart some-made space) = apart some-made (omega (arith, same .as-long))
+
+parts-kept : {steps depth : ℕ} {a : Start} {l r : Term} {left right used : ℕ} {room after : List ℕ}
+    → Parts steps depth a l r left right used room → Same room after used
+    → Parts steps depth a l r left right used after
+parts-kept {a = a} {l} {r} {left} {right} {used} was same =
+    let below : a .node < used = omega (arith, was .begun, was .grows) in
+    record {
+      function = was .function;
+      argument = was .argument;
+      is = was .is;
+      was = holds-kept (a .term) (a .node) same below (was .was);
+      begun = was .begun;
+      holds-left = holds-kept l left same (was .below-left) (was .holds-left);
+      holds-right = holds-kept r right same (was .below-right) (was .holds-right);
+      below-left = was .below-left;
+      below-right = was .below-right;
+      grows = was .grows;
+      inside = omega (arith, was .inside, same .as-long);
+      small = omega (arith, was .small, same .as-long);
+      low = was .low;
+      few = was .few;
+      kept = together-kept below same (was .kept);
+      same = same-then (was .grows) (was .same) same;
+    }
 
 -- HERE: the contraction of an abstraction
 module _ {o : Order} {depth whole left right : ℕ} {a : Start} {l r : Term} {s : State} {room : List ℕ}
@@ -114,12 +146,12 @@ module _ {o : Order} {depth whole left right : ℕ} {a : Start} {l r : Term} {s 
       made-one : {q : State} {after : List ℕ} → Contracted (function .body) r depth s room q after → q .stop ≡ 1
           → Ran o depth a q after
       made-one (made makes) one = made-ran makes
-      made-one (not-made why used budget spare is) one = absurd (why-not-one why (sym is ∙ one))
+      made-one (not-made why used budget spare is same) one = absurd (why-not-one why (sym is ∙ one))
 
       made-none : {q : State} {after : List ℕ} → Contracted (function .body) r depth s room q after
           → (q .stop ≡ 1 → ⊥) → Halts o depth a l r left right q after
       made-none (made makes) other = absurd (other (makes .stops))
-      made-none (not-made why used budget spare is) other =
+      made-none (not-made why used budget spare is same) other =
           let was = here .parted in
           record {
             parted = record {
@@ -129,7 +161,7 @@ module _ {o : Order} {depth whole left right : ℕ} {a : Start} {l r : Term} {s 
               size = omega (arith, was .size);
               few = was .few;
               deep = was .deep;
-              parts = rw used (was .parts);
+              parts = rw used (parts-kept (was .parts) same);
             };
             stops = rw (budget, is) (why-stops why);
             turned = λ one. absurd (other one);
