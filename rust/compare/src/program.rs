@@ -1,0 +1,33 @@
+//! The program under test, started anew for each batch of lines.
+use std::io::{Read, Write};
+use std::process::{Command, Stdio};
+
+/// The program reads no more than this of its input.
+pub const MOST_INPUT: usize = 1 << 19;
+
+/// What it writes to standard output and to standard error, where the times are.
+pub fn run(program: &str, input: &str) -> (String, String) {
+    let mut child = Command::new(program)
+        .stdin(Stdio::piped())
+        .stdout(Stdio::piped())
+        .stderr(Stdio::piped())
+        .spawn()
+        .unwrap_or_else(|e| panic!("{program}: {e}"));
+    let mut to = child.stdin.take().unwrap();
+    let mut from = child.stdout.take().unwrap();
+    let mut times = child.stderr.take().unwrap();
+    std::thread::scope(|scope| {
+        // a program that has died does not read: what it has written tells
+        scope.spawn(move || to.write_all(input.as_bytes()).ok());
+        let said = scope.spawn(move || text_of(&mut from));
+        let timed = text_of(&mut times);
+        child.wait().unwrap();
+        (said.join().unwrap(), timed)
+    })
+}
+
+fn text_of(from: &mut impl Read) -> String {
+    let mut all = vec![];
+    from.read_to_end(&mut all).unwrap();
+    String::from_utf8_lossy(&all).into_owned()
+}
