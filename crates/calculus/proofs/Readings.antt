@@ -72,6 +72,8 @@ calls =
     ∷ reduce NOR 9 "\\(\\1)1" gives runs (finished 1 (lam (var 1)))
     ∷ reduce HNO 9 "\\(\\1)1" gives runs (finished 1 (lam (var 1)))
     ∷ reduce HAP 9 "\\(\\1)1" gives runs (finished 1 (lam (var 1)))
+    -- HAP visits a function part by CBV, which leaves bodies alone, before its argument and the contraction
+    ∷ reduce HAP 1 "(\\2((\\1)1))3" gives runs (unfinished 1 (app (var 1) (app (lam (var 1)) (var 3))))
     -- eta is finished where no place is left, also at its limit
     ∷ eta 1 "\\21" gives runs (finished 1 (var 1))
     ∷ eta 1 "\\\\321" gives runs (unfinished 1 (lam (app (var 2) (var 1))))

@@ -1,5 +1,5 @@
 -- What a run under a limit says of the steps: how it ends, which terms were judged, and that it cannot end otherwise.
-use Prim.Native.Nat.{ℕ, zero, suc, _≤_, _<_, zero-le, suc-le-suc}
+use Prim.Native.Nat.{ℕ, zero, suc, _+_, _≤_, _<_, zero-le, suc-le-suc}
 use mathlib.Core.Path.{_≡_, refl, ap}
 use mathlib.Core.Option.{Option, none, some}
 use native.Mathlib.Omega.{arith}
@@ -15,6 +15,14 @@ pub accepted-steps : {judge : Term → Option Refusal} {o : Order} {n : ℕ} {t 
     → Steps o n t u
 accepted-steps stay-so = stay
 accepted-steps (go-on e a s) = go e (accepted-steps s)
+
+-- steps after steps
+pub accepted-then : {judge : Term → Option Refusal} {o : Order} {m n : ℕ} {t u v : Term} → Accepted judge o m t u
+    → Accepted judge o n u v
+    → Accepted judge o (m + n) t v
+accepted-then {n} stay-so q = let same : 0 + n ≡ n = omega arith in rw same q
+accepted-then {n} (go-on {n = m} e a p) q =
+    let same : suc m + n ≡ suc (m + n) = omega arith in rw same (go-on e a (accepted-then p q))
 
 -- another judge accepts at least as much
 pub accepted-by : {judge judge′ : Term → Option Refusal} {o : Order} {n : ℕ} {t u : Term}

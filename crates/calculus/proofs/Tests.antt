@@ -19,6 +19,15 @@ pub flipped : (b c : Bool) → not b ≡ c → b ≡ not c
 flipped true c e = ap not e
 flipped false c e = ap not e
 
+-- a test that passes changes nothing, and one that fails decides
+pub and-true : (b : Bool) → (b && true) ≡ b
+and-true true = refl
+and-true false = refl
+
+pub and-false : (b : Bool) → (b && false) ≡ false
+and-false true = refl
+and-false false = refl
+
 -- what two tests together tell of each
 pub both : (a b : Bool) → (a && b) ≡ true → (a ≡ true) × (b ≡ true)
 both true b e = (refl, e)

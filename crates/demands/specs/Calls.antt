@@ -1,12 +1,9 @@
--- What `reduce` promises of a call, word for word as its contract has it: the answer, the output, the work room.
+-- A call of `reduce`, and all that its contract allows it to answer and leave.
 use Prim.Native.Nat.{ℕ}
-use mathlib.Core.Path.{_≡_}
 use mathlib.Core.List.{List}
-use Rattle.calculus.specs.Outcomes.{reduce-of}
-use Rattle.nodes.specs.Answers.{run-told}
 use Rattle.nodes.specs.declared.runs.Run.{Run}
-use Rattle.orders.specs.Orders.{order-of}
 use Rattle.orders.specs.declared.Order.{Order}
+use Rattle.reduction.specs.Answers.{Reduces}
 
 -- what a call is lent and given
 pub record Asked : Type 0 where
@@ -22,5 +19,4 @@ pub record Answered (a : Asked) : Type 0 where
   pub run : Run
   pub after : List ℕ
   pub left : List ℕ
-  pub promised : (run-told run, after, left)
-      ≡ reduce-of (order-of (a .order)) (a .limit) (a .cap) (a .input) (a .out) (a .room)
+  pub promised : Reduces (a .order) (a .limit) (a .cap) (a .input) (a .out) (a .room) run after left

@@ -1,2 +1,2 @@
--- What the functions' contracts say, as one name for each.
+-- Calls, and what the functions' contracts allow of them.
 pub mod Calls

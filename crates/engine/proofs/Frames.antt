@@ -1,11 +1,9 @@
 -- A part in its place: steps of the part are steps of the whole, judged alike, and stop for the same reasons.
-use Prim.Native.Nat.{ℕ, suc, _+_}
+use Prim.Native.Nat.{ℕ, _+_}
 use mathlib.Core.Path.{_≡_, refl, _∙_}
 use mathlib.Core.Bool.{true, false}
-use mathlib.Core.Option.{Option, none, some}
-use native.Mathlib.Omega.{arith}
+use mathlib.Core.Option.{none, some}
 use Rattle.calculus.specs.Term.{Term, lam, app, nodes}
-use Rattle.calculus.specs.Refusal.{Refusal}
 use Rattle.calculus.specs.Orders.{Order, step, enters}
 use Rattle.calculus.specs.Traits.{spine, eager, hybrid, late, NotLam}
 use Rattle.calculus.specs.Ends.{Accepted, stay-so, go-on}
@@ -24,14 +22,6 @@ normal-stuck o (abstraction n) = next-body o (no-body (λ _. normal-stuck o n))
 normal-stuck o (application n l r) =
     let rests = normal-stuck o r in
     next-step o (nowhere (normal-stuck (spine o) l) (λ _. rests) n (λ _. normal-stuck o l) (λ _. rests))
-
--- steps after steps
-pub accepted-then : {judge : Term → Option Refusal} {o : Order} {m n : ℕ} {t u v : Term} → Accepted judge o m t u
-    → Accepted judge o n u v
-    → Accepted judge o (m + n) t v
-accepted-then {n} stay-so q = let same : 0 + n ≡ n = omega arith in rw same q
-accepted-then {n} (go-on {n = m} e a p) q =
-    let same : suc m + n ≡ suc (m + n) = omega arith in rw same (go-on e a (accepted-then p q))
 
 -- the place f of a part, which steps by p while the whole steps by o; what is kept true of the part meanwhile
 pub record Frame (o p : Order) (f : Term → Term) (I : Term → Type 0) (depth most inner fewer : ℕ) : Type 0 where

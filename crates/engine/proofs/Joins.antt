@@ -9,19 +9,9 @@ use Rattle.nodes.specs.Packing.{nodes-in, height-in}
 use Rattle.nodes.specs.Store.{Holds, Same, word, link}
 use Rattle.nodes.proofs.Keeping.{same-then, says}
 use Rattle.nodes.proofs.Holding.{held-once}
-use Rattle.engine.specs.Running.{Start, Kept, unmoved, moved}
+use Rattle.engine.specs.Running.{Start, renoded, Kept, unmoved, moved}
 use Rattle.engine.specs.Joining.{Body, Together, together, apart, Parts, Joined}
 use Rattle.engine.specs.declared.contracting.State.{State}
-
--- the same state at another node, with so many nodes used
-abbrev renoded : State → (node used : ℕ) → State
-renoded s node used = record {
-  node = node;
-  used = used;
-  budget = s .budget;
-  spare = s .spare;
-  stop = s .stop;
-}
 
 -- after a step, there is room for the node and those above
 record Roomy (steps depth used long : ℕ) : Type 0 where

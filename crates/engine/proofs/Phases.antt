@@ -14,6 +14,7 @@ use Rattle.calculus.specs.Orders.{Order, step}
 use Rattle.calculus.specs.Traits.{spine, eager, hybrid, late}
 use Rattle.calculus.specs.Ends.{Accepted, stay-so}
 use Rattle.calculus.proofs.NextStep.{Stuck, Unless}
+use Rattle.calculus.proofs.Running.{accepted-then}
 use Rattle.nodes.specs.Store.{Holds, link}
 use Rattle.nodes.proofs.Keeping.{same-refl, same-then, holds-kept}
 use Rattle.nodes.proofs.Holding.{indices-fit}
@@ -23,7 +24,7 @@ use Rattle.engine.specs.Running.{Kept, unmoved, moved, Ready, Ran}
 use Rattle.engine.specs.Joining.{Together, together, apart, Parted}
 use Rattle.engine.specs.declared.contracting.State.{State}
 use Rattle.engine.proofs.Parts.{Beside}
-use Rattle.engine.proofs.Frames.{accepted-then, Frame, Always, Neutral, lifted, lifted-stop}
+use Rattle.engine.proofs.Frames.{Frame, Always, Neutral, lifted, lifted-stop}
 use Rattle.engine.proofs.Frames.{spine-frame, early-frame, left-frame, late-frame}
 
 -- refusals have greater numbers than the other reasons to stop

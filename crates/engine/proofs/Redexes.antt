@@ -13,6 +13,7 @@ use Rattle.calculus.specs.Traits.{hybrid, NotLam}
 use Rattle.calculus.specs.Substitution.{contract}
 use Rattle.calculus.specs.Ends.{go-on, stay-so}
 use Rattle.calculus.proofs.NextStep.{next-step, at-here, shape}
+use Rattle.calculus.proofs.Running.{accepted-then}
 use Rattle.nodes.specs.Packing.{kind-in}
 use Rattle.nodes.specs.Store.{Holds, Same, word, kind}
 use Rattle.nodes.proofs.Keeping.{holds-kept, says, same-then}
@@ -23,7 +24,7 @@ use Rattle.engine.specs.Joining.{Together, together, apart, Parts, Here,
 use Rattle.engine.specs.Contracting as contracting
 use Rattle.engine.specs.Contracting.{Redex, most-of, Contracted, Makes, Why, made, not-made}
 use Rattle.engine.specs.declared.contracting.State.{State}
-use Rattle.engine.proofs.Frames.{accepted-then, Neutral, rests-plain}
+use Rattle.engine.proofs.Frames.{Neutral, rests-plain}
 use Rattle.engine.proofs.Phases.{tells-above, unused, Halts}
 
 -- what is written behind the nodes that are used changes nothing

@@ -12,6 +12,7 @@ use Rattle.calculus.specs.Orders.{Order, step, enters}
 use Rattle.calculus.specs.Ends.{Accepted, stay-so}
 use Rattle.calculus.proofs.NextStep.{next-body, no-body}
 use Rattle.calculus.proofs.Tests.{flipped}
+use Rattle.calculus.proofs.Running.{accepted-then}
 use Rattle.nodes.specs.Packing.{kind-in, normal-in}
 use Rattle.nodes.specs.Store.{Holds, Same, variable, word, link}
 use Rattle.nodes.proofs.Keeping.{same-refl, same-then, holds-kept, says}
@@ -21,7 +22,7 @@ use Rattle.engine.specs.Running.{Start, started, most, placed, halted, S
 use Rattle.engine.specs.Running.{Kept, unmoved, moved, Ready, Ran, Runs}
 use Rattle.engine.specs.Joining.{Body, Joined}
 use Rattle.engine.specs.declared.contracting.State.{State}
-use Rattle.engine.proofs.Frames.{normal-stuck, accepted-then, Frame, Always, always, lifted, body-frame}
+use Rattle.engine.proofs.Frames.{normal-stuck, Frame, Always, always, lifted, body-frame}
 use Rattle.engine.proofs.Phases.{rests, lifted-end}
 
 -- what a test that is turned about tells
@@ -44,16 +45,16 @@ pub record Gone (o : Order) (depth : ℕ) (a : Start) (s : State) (room : List �
   pub same : Same (a .room) room (a .used)
 
 -- without a step nothing was made
-unused : {steps depth node used long : ℕ} {s : State} → Kept steps depth node used s long → steps ≡ 0 → s .used ≡ used
-unused (unmoved e n u) zero = u
-unused (moved lt fits) zero = absurd (omega arith)
+none-made : {steps depth node used long : ℕ} {s : State} → Kept steps depth node used s long → steps ≡ 0 → s .used ≡ used
+none-made (unmoved e n u) zero = u
+none-made (moved lt fits) zero = absurd (omega arith)
 
-kept-then : {m n depth node used long : ℕ} {s q : State} → Kept m depth node used s long
+kept-on : {m n depth node used long : ℕ} {s q : State} → Kept m depth node used s long
     → Kept n depth (s .node) (s .used) q long → Kept (m + n) depth node used q long
-kept-then (unmoved e n u) (unmoved e2 n2 u2) = unmoved (omega arith) (n2 ∙ n) (u2 ∙ u)
-kept-then (unmoved e n u) (moved lt fits) = moved (omega arith) fits
-kept-then (moved lt fits) (unmoved e2 n2 u2) = moved (omega arith) (omega arith)
-kept-then (moved lt fits) (moved lt2 fits2) = moved (omega arith) fits2
+kept-on (unmoved e n u) (unmoved e2 n2 u2) = unmoved (omega arith) (n2 ∙ n) (u2 ∙ u)
+kept-on (unmoved e n u) (moved lt fits) = moved (omega arith) fits
+kept-on (moved lt fits) (unmoved e2 n2 u2) = moved (omega arith) (omega arith)
+kept-on (moved lt fits) (moved lt2 fits2) = moved (omega arith) fits2
 
 -- by the kind of the node, what a call asks
 module _ {t : Term} {s : State} {room : List ℕ} {depth k : ℕ} (ready : Ready t room depth s)
@@ -133,7 +134,7 @@ module _ {o : Order} {depth : ℕ} where
           below = ran .below;
           grows = omega (arith, gone .grows, ran .grows);
           inside = ran .inside;
-          kept = kept-then {s = mid} (rw (ran .same .as-long) (gone .kept)) (ran .kept);
+          kept = kept-on {s = mid} (rw (ran .same .as-long) (gone .kept)) (ran .kept);
           same = same-then (gone .grows) (gone .same) (ran .same);
         }
 
@@ -142,7 +143,7 @@ module _ {o : Order} {depth : ℕ} where
         gone-last ended =
             gone-ran gone-on (rw (gone .size) at (ran .stops)) (λ one. absurd (ended one))
             (λ three zero.
-            omega (arith, unused (gone .kept) (omega arith), ran .filled three (omega arith), gone .size))
+            omega (arith, none-made (gone .kept) (omega arith), ran .filled three (omega arith), gone .size))
 
   -- NO STEP
   pub stays : {t : Term} {s q : State} {room : List ℕ} → Ready t room depth s → step o t ≡ none → q ≡ halted s 0

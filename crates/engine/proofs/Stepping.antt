@@ -10,12 +10,12 @@ use Rattle.calculus.specs.Term.{Term, nodes}
 use Rattle.calculus.specs.Orders.{Order}
 use Rattle.calculus.specs.Ends.{stay-so}
 use Rattle.calculus.proofs.Measures.{nodes-positive}
+use Rattle.calculus.proofs.Running.{accepted-then}
 use Rattle.nodes.proofs.Keeping.{holds-moved}
 use Rattle.engine.specs.Running.{Ready, Ran, Runs, started}
 use Rattle.engine.specs.Moving.{from-base, Copiable, Copies, Movable, Moves}
 use Rattle.engine.specs.Stepping.{Rooted, RunsFirst, Renewed, Onward, Ended}
 use Rattle.engine.specs.declared.contracting.State.{State}
-use Rattle.engine.proofs.Frames.{accepted-then}
 
 module _ {t : Term} {cap : ℕ} {s : State} {store : List ℕ} (at : Rooted t cap s store) where
   -- ROUNDS in the first part of the store

@@ -38,9 +38,18 @@ started t s room = record {
 abbrev pub most : Start → ℕ
 most a = nodes (a .term) + a .spare
 
--- the same state at another node, and stopped
+-- the same state at another node to begin at, at one that was made, and stopped
 abbrev pub placed : State → ℕ → State
 placed s node = record { node = node; used = s .used; budget = s .budget; spare = s .spare; stop = 0 }
+
+abbrev pub renoded : State → (node used : ℕ) → State
+renoded s node used = record {
+  node = node;
+  used = used;
+  budget = s .budget;
+  spare = s .spare;
+  stop = s .stop;
+}
 
 abbrev pub halted : State → ℕ → State
 halted s stop = record { node = s .node; used = s .used; budget = s .budget; spare = s .spare; stop = stop }

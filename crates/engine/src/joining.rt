@@ -3,8 +3,21 @@ use crate::contracting::State;
 ghost use mathlib.Core.Path.{_≡_};
 ghost use Prim.Native.Nat.{ℕ};
 ghost use Rattle.calculus.specs.Term.{Term, lam, app};
-ghost use Rattle.engine.specs.Running.{Start};
+ghost use Rattle.engine.specs.Running.{Start, renoded};
 ghost use Rattle.engine.specs.Joining.{Body, Parts, Joined};
+
+// The same state at another node, with so many nodes used.
+fn renode(s: State, node: usize, used: usize) -> State
+    ensures { λ r. ⌜ r ≡ renoded s node used ⌝ }
+{
+    State {
+        node,
+        used,
+        budget: s.budget,
+        spare: s.spare,
+        stop: s.stop,
+    }
+}
 
 // The abstraction, whose body is now the state's node.
 pub(crate) fn rebind(room: &mut [u64], s: State, whole: usize) -> State
@@ -15,22 +28,10 @@ pub(crate) fn rebind(room: &mut [u64], s: State, whole: usize) -> State
 {
     let at = s.used;
     if room[2 * whole + 1] as usize == s.node {
-        return State {
-            node: whole,
-            used: at,
-            budget: s.budget,
-            spare: s.spare,
-            stop: s.stop,
-        };
+        return renode(s, whole, at);
     }
     let next = nodes::make_abstraction(room, at, s.node);
-    State {
-        node: at,
-        used: next,
-        budget: s.budget,
-        spare: s.spare,
-        stop: s.stop,
-    }
+    renode(s, at, next)
 }
 
 // The application, whose parts are now these.
@@ -43,20 +44,8 @@ pub(crate) fn rejoin(room: &mut [u64], s: State, whole: usize, left: usize, righ
 {
     let at = s.used;
     if room[2 * whole + 1] == nodes::pair(left, right) {
-        return State {
-            node: whole,
-            used: at,
-            budget: s.budget,
-            spare: s.spare,
-            stop: s.stop,
-        };
+        return renode(s, whole, at);
     }
     let next = nodes::make_application(room, at, left, right);
-    State {
-        node: at,
-        used: next,
-        budget: s.budget,
-        spare: s.spare,
-        stop: s.stop,
-    }
+    renode(s, at, next)
 }

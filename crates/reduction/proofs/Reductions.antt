@@ -1,7 +1,7 @@
 -- What `reduce` answers: the input's refusals, how the steps end, and 1 and 2 before.
 use Prim.Native.Nat.{ℕ, _*_, _≤_, _<_}
-use mathlib.Core.Path.{_≡_, refl, _∙_}
-use mathlib.Core.Bool.{Bool, true, false, _&&_}
+use mathlib.Core.Path.{_≡_, _∙_}
+use mathlib.Core.Bool.{true, false}
 use mathlib.Core.List.{List, _++_}
 use native.Mathlib.Omega.{arith}
 use lib.Dec.{leb}
@@ -21,6 +21,7 @@ use Rattle.calculus.specs.Outcomes.{reduce-of}
 use Rattle.calculus.proofs.Judged.{checked-given}
 use Rattle.calculus.proofs.Running.{ends-run}
 use Rattle.calculus.proofs.Sizes.{nine-per-node}
+use Rattle.calculus.proofs.Tests.{and-false, and-true}
 use Rattle.term.specs.Answers.{refusal-of}
 use Rattle.term.specs.Surveys.{Admitted}
 use Rattle.term.specs.declared.Refusal.{Refusal}
@@ -148,19 +149,10 @@ some-limit {limit} h = rw (le-leb 1 limit h)
 
 -- 1 AND 2, and the work after them
 module _ (o : Order) (limit cap : ℕ) (s out room : List ℕ) where
-  -- whatever the cap
-  outside : (allowed : Bool) → (allowed && false) ≡ false
-  outside true = refl
-  outside false = refl
-
-  inside : (allowed : Bool) → (allowed && true) ≡ allowed
-  inside true = refl
-  inside false = refl
-
   pub limit-refused : limit-allowed limit ≡ false
       → (run-told (run.Refused 0 OutsideBounds), out, room) ≡ reduce-of o limit cap s out room
   unfolding reduce-of run-told
-  limit-refused e = rw (e, outside (cap-allowed cap))
+  limit-refused e = rw (e, and-false (cap-allowed cap))
 
   module _ (in-bounds : limit-allowed limit ≡ true) where
     pub refuses : {g : Granted} {why : Refusal} → granted-told g ≡ granting cap (length out) (length room)
@@ -168,7 +160,7 @@ module _ (o : Order) (limit cap : ℕ) (s out room : List ℕ) where
         → (run-told (run.Refused 0 why), out, room) ≡ reduce-of o limit cap s out room
     unfolding reduce-of run-told
     refuses says is =
-        rw (in-bounds, inside (cap-allowed cap))
+        rw (in-bounds, and-true (cap-allowed cap))
         (not-granted cap out room (refused-after 0) (stored-run (reduced o limit cap s) out) says is)
 
     pub answers : {most : ℕ} → Passed cap out room most → {r : Run} {after store′ left : List ℕ}
@@ -177,6 +169,6 @@ module _ (o : Order) (limit cap : ℕ) (s out room : List ℕ) where
         → (run-told r, after, left) ≡ reduce-of o limit cap s out room
     unfolding reduce-of
     answers passes {store′ = store′} works left =
-        rw (in-bounds, inside (cap-allowed cap))
+        rw (in-bounds, and-true (cap-allowed cap))
         (answered cap out room passes (refused-after 0) store′ (rw (passes .same) at (works .stores)) (works .as-long)
         left)

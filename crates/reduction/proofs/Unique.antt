@@ -2,14 +2,12 @@
 use Prim.Native.Nat.{ℕ}
 use mathlib.Core.Path.{_≡_, refl, sym, ap, _∙_}
 use mathlib.Core.List.{List}
-use Rattle.calculus.specs.Outcomes.{apply-of, reduce-of}
+use Rattle.calculus.specs.Outcomes.{apply-of}
 use Rattle.term.proofs.Unique.{refusal-back, answer-from, one-by}
-use Rattle.nodes.specs.Answers.{run-told}
 use Rattle.nodes.specs.declared.runs.Run.{Run}
 use Rattle.nodes.proofs.Unique.{one-run}
-use Rattle.orders.specs.Orders.{order-of}
 use Rattle.orders.specs.declared.Order.{Order}
-use Rattle.reduction.specs.Answers.{applied-told}
+use Rattle.reduction.specs.Answers.{applied-told, Reduces}
 use Rattle.reduction.specs.declared.Applied.{Applied}
 use Rattle.reduction.specs.declared.Applied.the-variants.{Length, Refused}
 
@@ -29,8 +27,7 @@ one-apply cap s u out room e k = (
 
 pub one-reduce : (order : Order) (limit cap : ℕ) (s out room : List ℕ) {r q : Run}
     {after other left remaining : List ℕ}
-    → (run-told r, after, left) ≡ reduce-of (order-of order) limit cap s out room
-    → (run-told q, other, remaining) ≡ reduce-of (order-of order) limit cap s out room
+    → Reduces order limit cap s out room r after left → Reduces order limit cap s out room q other remaining
     → (r ≡ q) × (after ≡ other) × (left ≡ remaining)
 one-reduce order limit cap s out room e k = (
   one-run (ap (λ x. x .0) e) (ap (λ x. x .0) k),

@@ -9,12 +9,12 @@ use orders::Order;
 use term::Checked;
 use term::Refusal;
 ghost use mathlib.Core.Path.{_≡_};
-ghost use Rattle.calculus.specs.Outcomes.{limit-allowed, reduced, reduce-of};
+ghost use Rattle.calculus.specs.Outcomes.{limit-allowed, reduced};
 ghost use Rattle.term.specs.Surveys.{Admitted};
-ghost use Rattle.nodes.specs.Answers.{run-told};
 ghost use Rattle.nodes.specs.Lending.{Lent};
 ghost use Rattle.nodes.specs.Working.{Works};
 ghost use Rattle.orders.specs.Orders.{order-of};
+ghost use Rattle.reduction.specs.Answers.{Reduces};
 
 // The steps, of an input that is a whole term within the bounds, and the bytes of the term that they reach.
 fn step_on(cap: usize, order: Order, limit: u64, s: &[u8], out: &mut [u8], store: &mut [u64]) -> Run
@@ -60,8 +60,8 @@ fn allowed(limit: u64) -> bool
 
 // 1, 2, then the work, after which the room is cleared.
 pub fn reduce(order: Order, limit: u64, cap: u64, s: &[u8], out: &mut [u8], room: &mut [u64]) -> Run
-    ensures { λ r. ⌜ (run-told r, now (out .exit), now (room .exit))
-        ≡ reduce-of (order-of order) limit cap (now (s .entry)) (now (out .entry)) (now (room .entry)) ⌝ }
+    ensures { λ r. ⌜ Reduces order limit cap (now (s .entry)) (now (out .entry)) (now (room .entry))
+        r (now (out .exit)) (now (room .exit)) ⌝ }
 {
     if !allowed(limit) {
         return Run::Refused {

@@ -157,7 +157,8 @@ impl Tally {
         let (output, _) = program::run(program, &input);
         let mut said = output.lines();
         for case in cases {
-            for wanted in case.answers().unwrap_or_else(|e| vec![e]) {
+            let answers = case.answers();
+            for wanted in answers.unwrap_or_else(|e| panic!("{}: {e}", case.line())) {
                 let got = said.next().unwrap_or("nothing");
                 self.answers += 1;
                 *self.ends.entry(kind(&wanted)).or_default() += 1;
@@ -167,6 +168,7 @@ impl Tally {
                 }
             }
         }
+        assert_eq!(said.next(), None, "more than was asked for");
     }
 
     fn report(&self, what: &str) -> bool {

@@ -10,7 +10,6 @@ pub enum Line {
 
 pub struct Lines(pub Vec<Line>);
 
-/// Which order, or none for all of them.
 impl Lines {
     pub fn title(&mut self, words: &str) {
         self.0.push(Line::Title(format!("# {words}")));
@@ -20,6 +19,7 @@ impl Lines {
         self.0.push(Line::Case(case));
     }
 
+    /// In an order, or in none for all of them.
     pub fn text(&mut self, order: Option<Order>, limit: u64, cap: u64, text: &str) {
         self.written(order, limit, cap, Form::DeBruijn, text);
     }

@@ -16,8 +16,8 @@ use std::env;
 
 const USAGE: &str = "differ [SEED [COUNT]] | small [NODES] | vectors [FOLDER] | time [WORDS]";
 
-/// Terms are boxed trees, walked and dropped by recursion.
-const STACK: usize = 4 << 30;
+/// Terms are boxed trees, walked and dropped by recursion: what is too high for the program may be walked here too.
+const STACK: usize = 1 << 30;
 
 /// A path beside this project, in the repository.
 fn in_repository(path: &str) -> String {

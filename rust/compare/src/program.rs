@@ -17,11 +17,12 @@ pub fn run(program: &str, input: &str) -> (String, String) {
     let mut from = child.stdout.take().unwrap();
     let mut times = child.stderr.take().unwrap();
     std::thread::scope(|scope| {
-        // a program that has died does not read: what it has written tells
+        // a program that has died does not read: how it ended tells
         scope.spawn(move || to.write_all(input.as_bytes()).ok());
         let said = scope.spawn(move || text_of(&mut from));
         let timed = text_of(&mut times);
-        child.wait().unwrap();
+        let end = child.wait().unwrap();
+        assert!(end.success(), "{program}: {end}");
         (said.join().unwrap(), timed)
     })
 }

@@ -14,8 +14,8 @@ const ROUNDS: u64 = 9;
 const ROUND: f64 = 5000.0;
 
 extern "C" {
-    /// Processor time in microseconds, by the same call of the C library that the program makes.
-    fn clock() -> i64;
+    /// Processor time in microseconds, as POSIX has it, by the same call of the C library that the program makes.
+    fn clock() -> std::ffi::c_long;
 }
 
 fn now() -> f64 {
@@ -124,8 +124,16 @@ const HEADS: &str =
     "| term | order | cap | original µs | with coding µs | program µs | trivial µs \
     | program / original | less trivial | less trivial / with coding |";
 
-/// The row's ratio to the bare original, without the trivial call.
-fn tell(program: &str, row: &Row, cap: u64) -> f64 {
+/// A row's ratios to the bare original and to the one with coding, without the trivial call and with it.
+struct Ratios {
+    group: &'static str,
+    bare: f64,
+    coded: f64,
+    bare_all: f64,
+    coded_all: f64,
+}
+
+fn tell(program: &str, row: &Row, cap: u64) -> Ratios {
     let t = times(program, row, cap);
     let work = (t.program - t.trivial).max(0.0);
     let measured = [t.bare, t.whole, t.program, t.trivial].map(|x| format!("{x:.1}"));
@@ -137,26 +145,63 @@ fn tell(program: &str, row: &Row, cap: u64) -> f64 {
         measured.join(" | "),
         ratios.join(" | ")
     );
-    work / t.bare
+    Ratios {
+        group: row.group,
+        bare: work / t.bare,
+        coded: work / t.whole,
+        bare_all: t.program / t.bare,
+        coded_all: t.program / t.whole,
+    }
+}
+
+/// Geometric mean, least and greatest.
+fn spread(values: &[f64]) -> [f64; 3] {
+    let logs: f64 = values.iter().map(|x| x.max(0.01).ln()).sum();
+    let least = values.iter().copied().fold(f64::MAX, f64::min);
+    let greatest = values.iter().copied().fold(0.0, f64::max);
+    [(logs / values.len() as f64).exp(), least, greatest]
+}
+
+fn tell_group(name: &str, rows: &[&Ratios]) {
+    let of = |f: fn(&Ratios) -> f64| spread(&rows.iter().map(|r| f(r)).collect::<Vec<f64>>());
+    let ([bare, b0, b1], [coded, c0, c1]) = (of(|r| r.bare), of(|r| r.coded));
+    let ([bare_all, ..], [coded_all, ..]) = (of(|r| r.bare_all), of(|r| r.coded_all));
+    let count = rows.len();
+    println!(
+        "| {name} | {count} | {bare:.2} | {b0:.2} to {b1:.2} | {bare_all:.2} \
+        | {coded:.2} | {c0:.2} to {c1:.2} | {coded_all:.2} |"
+    );
+}
+
+const GROUP_HEADS: &str = "| group | rows | bare | least and greatest | with clearing \
+    | with coding | least and greatest | with clearing |";
+
+fn tell_groups(ratios: &[Ratios]) {
+    println!("\n{GROUP_HEADS}\n|{}", "---|".repeat(8));
+    let mut left: &[Ratios] = ratios;
+    while let Some(first) = left.first() {
+        let count = left.iter().take_while(|r| r.group == first.group).count();
+        tell_group(first.group, &left[..count].iter().collect::<Vec<&Ratios>>());
+        left = &left[count..];
+    }
+    if !ratios.is_empty() {
+        tell_group("all", &ratios.iter().collect::<Vec<&Ratios>>());
+    }
 }
 
 pub fn run(program: &str, words: &[String]) -> bool {
     println!("{HEADS}\n|{}", "---|".repeat(10));
-    let (mut logs, mut count) = (0.0, 0);
+    let mut ratios = vec![];
     for row in rows() {
         let full = format!("{} {:?}", row.name, row.order);
         if !words.is_empty() && !words.iter().any(|word| full.contains(word)) {
             continue;
         }
         match least_cap(program, &row) {
-            Some(cap) => {
-                logs += tell(program, &row, cap).max(0.01).ln();
-                count += 1;
-            }
+            Some(cap) => ratios.push(tell(program, &row, cap)),
             None => println!("| {} | {:?} | refused under any cap |", row.name, row.order),
         }
     }
-    let mean = (logs / count.max(1) as f64).exp();
-    println!("{count} rows; program / original, less trivial: geometric mean {mean:.2}");
+    tell_groups(&ratios);
     true
 }

@@ -5,7 +5,8 @@ use Rattle.engine.proofs.joining.rebind.Statement.{statement}
 use Rattle.engine.proofs.joining.rebind.Tie as tie
 
 returns : tie.Need-returns
-returns c steps depth a b body whole-is = body-unchanged body whole-is (c .if1 .taken)
+returns c steps depth a b body whole-is =
+    rw (c .renode .ensures) (body-unchanged body whole-is (c .before .if1 .taken))
 
 make-abstraction-requires : tie.Need-make-abstraction-requires
 make-abstraction-requires c κs =
@@ -15,8 +16,9 @@ make-abstraction-requires c κs =
 
 returns-2 : tie.Need-returns-2
 returns-2 c steps depth a b body whole-is =
-    let at-make = c .before .before in
-    body-changed body whole-is (at-make .before .before .if1 .left) (at-make .make-abstraction .ensures)
+    let at-make = c .before .before .before in
+    rw (c .renode2 .ensures)
+    (body-changed body whole-is (at-make .before .before .if1 .left) (at-make .make-abstraction .ensures))
 
 pub rebind-spec : {M : Type 1} → statement M
 rebind-spec =
@@ -26,7 +28,9 @@ rebind-spec =
     (λ c. search needs)
     (λ c. search needs)
     (λ c. search needs)
+    (λ c κs. search needs)
     returns
     make-abstraction-requires
+    (λ c κs. search needs)
     (λ c. search needs)
     returns-2)
