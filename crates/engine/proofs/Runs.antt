@@ -45,7 +45,8 @@ pub record Gone (o : Order) (depth : ℕ) (a : Start) (s : State) (room : List �
   pub same : Same (a .room) room (a .used)
 
 -- without a step nothing was made
-none-made : {steps depth node used long : ℕ} {s : State} → Kept steps depth node used s long → steps ≡ 0 → s .used ≡ used
+none-made : {steps depth node used long : ℕ} {s : State} → Kept steps depth node used s long → steps ≡ 0
+    → s .used ≡ used
 none-made (unmoved e n u) zero = u
 none-made (moved lt fits) zero = absurd (omega arith)
 
