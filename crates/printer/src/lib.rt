@@ -1,6 +1,6 @@
 // Both printers: the De Bruijn and the classic text of any coded term, written into a lent slice.
 mod pieces;
-mod writer;
+pub mod writer;
 
 use calculus::MOST_HEIGHT;
 use calculus::MOST_NODES;

@@ -7,7 +7,7 @@ ghost use Rattle.calculus.specs.Bounds.{greatest-number};
 ghost use Rattle.calculus.proofs.Putting.{Puts};
 
 // Past the end a byte is counted and not stored, so that one walk both measures a text and writes it.
-pub(crate) fn put(out: &mut [u8], to: usize, b: u8) -> usize
+pub fn put(out: &mut [u8], to: usize, b: u8) -> usize
     requires { ⌜ to < greatest-number ⌝ }
     ensures { λ r. ⌜ Puts (now (out .entry)) to (b ∷ []) r (now (out .exit)) ⌝ }
 {
@@ -19,7 +19,7 @@ pub(crate) fn put(out: &mut [u8], to: usize, b: u8) -> usize
     }
 }
 
-pub(crate) fn put_all(out: &mut [u8], to: usize, text: &[u8]) -> usize
+pub fn put_all(out: &mut [u8], to: usize, text: &[u8]) -> usize
     requires { ⌜ to + length (now text) ≤ greatest-number ⌝ }
     ensures { λ r. ⌜ Puts (now (out .entry)) to (now (text .entry)) r (now (out .exit)) ⌝ }
 {

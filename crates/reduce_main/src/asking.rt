@@ -7,6 +7,7 @@ use calculus::GREATEST_NUMBER;
 use calculus::MOST_NODES;
 use calculus::OUTPUT_PER_NODE;
 use calculus::ROOM_PER_NODE;
+use lines::Number;
 use orders::Order;
 use term::Notation;
 ghost use Prim.Native.Nat.{_≤_};
@@ -36,93 +37,31 @@ struct Word {
     next: usize,
 }
 
-fn wide(b: u8) -> u64
-    ensures { λ r. ⌜ r ≤ 255 ⌝ }
-{
-    b as u64
-}
-
-// A digit's value; 10 for any other byte.
-fn digit(b: u8) -> u64 {
-    if b < b'0' {
-        return 10;
-    }
-    if b <= b'9' { (b - b'0') as u64 } else { 10 }
-}
-
-// One more digit; what no 64-bit number is great enough for is held at the greatest.
-fn with_digit(value: u64, digit: u64) -> u64 {
-    let last = digit % 10;
-    if (GREATEST_NUMBER - last) / 10 < value {
-        GREATEST_NUMBER
-    } else {
-        value * 10 + last
-    }
-}
-
-fn past_space(line: &[u8], at: usize) -> usize {
-    if line.len() <= at {
-        return at;
-    }
-    if line[at] == b' ' { at + 1 } else { at }
-}
-
-// The number whose digits begin at a place, or another where no digit does.
+// The number that begins at a place, or another where none does.
 fn number_at(line: &[u8], from: usize, otherwise: u64) -> Word {
-    let mut value: u64 = 0;
-    let mut at = from;
-    while at < line.len() {
-        let d = digit(line[at]);
-        if 9 < d {
-            break;
-        }
-        value = with_digit(value, d);
-        at += 1;
-    }
-    if at == from {
-        Word {
+    let end = samples::word_end(line, from, b' ');
+    match lines::decimal(samples::part(line, from, end)) {
+        Number::Given(value) => Word {
+            value,
+            next: lines::past(line, end),
+        },
+        Number::Nothing => Word {
             value: otherwise,
             next: from,
-        }
-    } else {
-        Word {
-            value,
-            next: past_space(line, at),
-        }
+        },
     }
-}
-
-// The three letters at a place as one number; 0 where the bytes end before.
-fn letters_at(line: &[u8], at: usize) -> u64 {
-    if line.len() < 3 {
-        return 0;
-    }
-    if line.len() - 3 < at {
-        return 0;
-    }
-    (wide(line[at]) * 256 + wide(line[at + 1])) * 256 + wide(line[at + 2])
 }
 
 // What is asked for by the eighth name.
 pub(crate) const ALL_ORDERS: u64 = 7;
 
-const NAMES: usize = 11;
-
 // Which of the names stands at a place.
 fn name_at(line: &[u8], from: usize) -> Word {
-    let letters = letters_at(line, from);
     let end = samples::word_end(line, from, b' ');
-    for number in 0..NAMES {
-        if letters_at(b"NORCBNHSPHNOAPPCBVHAPALLdbrclahex", 3 * number) == letters {
-            return Word {
-                value: number as u64,
-                next: past_space(line, end),
-            };
-        }
-    }
+    let name = samples::part(line, from, end);
     Word {
-        value: NAMES as u64,
-        next: end,
+        value: lines::which(b"NOR CBN HSP HNO APP CBV HAP ALL dbr cla hex", name) as u64,
+        next: lines::past(line, end),
     }
 }
 

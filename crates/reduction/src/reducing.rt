@@ -49,7 +49,7 @@ fn work_on(cap: usize, order: Order, limit: u64, s: &[u8], out: &mut [u8], store
 }
 
 // Whether a limit is within its bounds.
-fn allowed(limit: u64) -> bool
+pub fn allowed(limit: u64) -> bool
     ensures { λ r. ⌜ r ≡ limit-allowed limit ⌝ }
 {
     if limit < 1 {

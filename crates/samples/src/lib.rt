@@ -126,7 +126,7 @@ pub fn repeat(buf: &mut [u8], at: usize, bytes: &[u8], count: usize) -> usize {
     to
 }
 
-fn copy(buf: &mut [u8], at: usize, bytes: &[u8]) -> usize {
+pub fn copy(buf: &mut [u8], at: usize, bytes: &[u8]) -> usize {
     let mut to = at;
     let mut i: usize = 0;
     while i < bytes.len() {

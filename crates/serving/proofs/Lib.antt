@@ -1,0 +1,2 @@
+-- What a read brought.
+pub mod Coming

@@ -1,0 +1,2 @@
+-- How many bytes reading brings.
+pub mod Reading
