@@ -1,6 +1,10 @@
-//! One line of the program's input, and the lines that it must answer.
+//! One line of reduce_main's input, and the lines that it must answer.
+use crate::call::{Call, Lengths};
 use crate::original;
-use crate::reference::{self, End, Order, ORDERS};
+use crate::posed::Posed;
+use crate::random::Random;
+use crate::reduction::{Order, ORDERS};
+use crate::reference;
 use crate::term::*;
 use lambda_calculus::term::Notation;
 
@@ -43,6 +47,21 @@ impl Case {
         Case::new(order, limit, cap, Form::Hex, hex(s))
     }
 
+    /// In an order and a form chosen at random.
+    pub fn of_posed(r: &mut Random, posed: &Posed) -> Case {
+        let Posed { limit, cap, term } = posed;
+        let order = r.pick(&ORDERS);
+        let deepest = height(term) > 512;
+        match r.below(4) {
+            0 if closed(term, 0) && !deepest => {
+                Case::new(order, *limit, *cap, Form::Classic, classic(term))
+            }
+            1 => Case::of_bytes(order, *limit, *cap, &bytes(term)),
+            _ if deepest => Case::of_bytes(order, *limit, *cap, &bytes(term)),
+            _ => Case::of_term(order, *limit, *cap, term),
+        }
+    }
+
     pub fn in_all_orders(self) -> Case {
         Case {
             order: None,
@@ -70,9 +89,10 @@ impl Case {
     }
 
     fn coded(&self) -> Result<Vec<u8>, u64> {
+        let parsed = |notation| original::parse(&self.text, notation).map_err(|e| e.refusal);
         match self.form {
-            Form::DeBruijn => original::parse(&self.text, Notation::DeBruijn),
-            Form::Classic => original::parse(&self.text, Notation::Classic),
+            Form::DeBruijn => parsed(Notation::DeBruijn),
+            Form::Classic => parsed(Notation::Classic),
             Form::Hex => Ok(unhex(&self.text)),
         }
     }
@@ -90,34 +110,26 @@ impl Case {
     }
 
     fn answer(&self, order: Order, s: &[u8]) -> Result<String, String> {
-        let enough = match self.lent {
-            Some((bytes, numbers)) => bytes >= 9 * self.cap && numbers >= 8 * self.cap,
-            None => true,
+        let call = Call::Reduce {
+            order: order as u64,
+            limit: self.limit,
+            cap: self.cap,
+            term: s,
         };
-        let end = reference::reduce(order, self.limit, self.cap, enough, s);
-        match &end {
-            End::Finished(steps, out) => {
-                self.agreed(order, &end, s)?;
-                Ok(format!("finished {steps} {}", self.told(out)?))
-            }
-            End::Unfinished(steps, out) => {
-                self.agreed(order, &end, s)?;
-                Ok(format!("unfinished {steps} {}", self.told(out)?))
-            }
-            End::Refused {
-                number: 10, offset, ..
-            } => Ok(format!("refused 10 after 0 at {offset}")),
-            End::Refused { number, steps, .. } => Ok(format!("refused {number} after {steps}")),
+        let (out, room) = self.lent.unwrap_or((u64::MAX, u64::MAX));
+        let (out, room) = (out as usize, room as usize);
+        let outcome = reference::outcome(&call, Lengths { out, room });
+        if !original::agrees(&call, &outcome) {
+            return Err(format!("the reference {outcome:?}, the original differs"));
         }
-    }
-
-    fn agreed(&self, order: Order, end: &End, s: &[u8]) -> Result<(), String> {
-        let other = original::reduce(order, self.limit, s);
-        if other == *end {
-            Ok(())
-        } else {
-            Err(format!("reference {end:?}, original {other:?}"))
-        }
+        let answer = outcome.answer;
+        let steps = answer.steps;
+        Ok(match (answer.refusal, answer.finished) {
+            (0, 1) => format!("finished {steps} {}", self.told(&outcome.first)?),
+            (0, _) => format!("unfinished {steps} {}", self.told(&outcome.first)?),
+            (10, _) => format!("refused 10 after 0 at {}", answer.place),
+            (number, _) => format!("refused {number} after {steps}"),
+        })
     }
 
     /// The term's text by the original, which has to be the reference's.

@@ -1,7 +1,7 @@
 //! The examples of the original's pages, expanded.
 use crate::original;
 use crate::random::numeral;
-use crate::reference::Order;
+use crate::reduction::Order;
 use crate::term::*;
 use lambda_calculus::term::Notation;
 use std::collections::HashMap;
@@ -32,9 +32,8 @@ fn coded(text: &str) -> Vec<u8> {
 
 /// The pages say what an example comes to: so the definitions above it are theirs.
 fn check(text: &str, result: &str) {
-    let end = original::reduce(Order::NOR, 0, &coded(text));
-    let reached = matches!(end, crate::reference::End::Finished(_, s) if s == coded(result));
-    assert!(reached, "{text} does not come to {result}");
+    let reached = original::reduce(Order::NOR, 0, &coded(text)).first;
+    assert_eq!(reached, coded(result), "{text} does not come to {result}");
 }
 
 /// Each example's text as the original writes it, without parentheses that say nothing.

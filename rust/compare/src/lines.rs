@@ -1,6 +1,6 @@
 //! The lines of the vectors: titles and cases.
 use crate::case::{Case, Form};
-use crate::reference::Order::{self, NOR};
+use crate::reduction::Order::{self, NOR};
 use crate::term::Term;
 
 pub enum Line {

@@ -1,9 +1,6 @@
-//! The program under test, started anew for each batch of lines.
+//! The program reduce_main, started anew for each batch of lines.
 use std::io::{Read, Write};
 use std::process::{Command, Stdio};
-
-/// The program reads no more than this of its input.
-pub const MOST_INPUT: usize = 1 << 19;
 
 /// What it writes to standard output and to standard error, where the times are.
 pub fn run(program: &str, input: &str) -> (String, String) {

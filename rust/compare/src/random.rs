@@ -1,4 +1,5 @@
 //! Random terms of several shapes, and known terms set among them.
+use crate::reduction::raise;
 use crate::term::*;
 
 pub struct Random(pub u64);
@@ -205,4 +206,41 @@ pub fn row(r: &mut Random, count: u64, depth: u64, free: Free) -> Term {
         true => app(var(depth + 1), t),
         false => app(t, small(r, depth, free)),
     })
+}
+
+/// So many turns around a term, each of which makes it higher by one: abstractions among them or not.
+pub fn tower(r: &mut Random, turns: u64, end: Term, binding: bool) -> Term {
+    let kinds = if binding { 3 } else { 2 };
+    let kind = r.below(5);
+    (0..turns).fold(end, |t, _| {
+        let turn = if kind < kinds { kind } else { r.below(kinds) };
+        match turn {
+            0 => app(t, var(2)),
+            1 => app(var(2), t),
+            _ => abs(t),
+        }
+    })
+}
+
+/// So many abstractions around a term, most of them places of eta, one in another.
+fn nest(r: &mut Random, t: Term, count: u64) -> Term {
+    (0..count).fold(t, |t, _| match r.below(8) {
+        0 => abs(app(t, var(1))),
+        1 => app(var(2), t),
+        _ => abs(app(raise(&t, 1, 0), var(1))),
+    })
+}
+
+/// A term with many places of eta, some of which index 0 or the binder blocks, some of which others uncover.
+pub fn with_places(r: &mut Random, nodes: u64, depth: u64, free: Free) -> Term {
+    let count = r.below(3);
+    let part = match nodes {
+        0..=3 => term(r, nodes, depth, free),
+        _ if r.chance(40) => abs(with_places(r, nodes - 1, depth + 1, free)),
+        _ => {
+            let left = with_places(r, nodes / 2, depth, free);
+            app(left, with_places(r, nodes / 2, depth, free))
+        }
+    };
+    nest(r, part, count)
 }

@@ -1,156 +1,132 @@
-//! The rules again, slow and direct: the table of orders, one contraction, and one step after another.
+//! What each entry point must answer and leave in the output, by the rules alone.
+use crate::answer::{Answer, Outcome};
+use crate::call::{Call, Lengths, Query, CLASSIC};
+use crate::eta::eta;
+use crate::reading::read;
+use crate::reduction::{judge, put, reduce, ORDERS};
 use crate::term::*;
-use Order::*;
-use Way::*;
 
-#[derive(Clone, Copy, PartialEq, Eq, Debug)]
-pub enum Order {
-    NOR,
-    CBN,
-    HSP,
-    HNO,
-    APP,
-    CBV,
-    HAP,
-}
+const MOST_NODES: u64 = 65_536;
+const MOST_STEPS: u64 = 1_000_000;
 
-pub const ORDERS: [Order; 7] = [NOR, CBN, HSP, HNO, APP, CBV, HAP];
-
-#[derive(Clone, Copy)]
-enum Way {
-    Left(Order),
-    Right(Order),
-    Here,
-}
-
-/// Where the next step of an application may lie, in the sequence of the table.
-fn ways(order: Order) -> &'static [Way] {
-    match order {
-        CBN => &[Left(CBN), Here],
-        HSP => &[Left(HSP), Here],
-        CBV => &[Left(CBV), Right(CBV), Here],
-        APP => &[Left(APP), Right(APP), Here],
-        NOR => &[Left(CBN), Here, Left(NOR), Right(NOR)],
-        HNO => &[Left(HSP), Here, Left(HNO), Right(HNO)],
-        HAP => &[Left(CBV), Right(HAP), Here, Left(HAP)],
+/// 7, then 9 of a term that has no index above the greatest; of a next term 12 before them.
+fn within(cap: u64, t: Term) -> Result<Term, Answer> {
+    match judge(&t, cap) {
+        Some(refusal) => Err(Answer::refused(refusal)),
+        None => Ok(t),
     }
 }
 
-/// The way down to the part that the next step contracts, its last turn first; none if no step is left.
-fn place(order: Order, t: &Term) -> Option<Vec<Way>> {
-    match t {
-        Var(_) => None,
-        Abs(_) if order == CBN || order == CBV => None,
-        Abs(b) => turned(place(order, b), Here),
-        App(l, r) => ways(order).iter().find_map(|way| match way {
-            Left(o) => turned(place(*o, l), *way),
-            Right(o) => turned(place(*o, r), *way),
-            Here => matches!(**l, Abs(_)).then(Vec::new),
-        }),
+/// A coded input: 10, 7, 9.
+fn checked(cap: u64, s: &[u8]) -> Result<Term, Answer> {
+    match scan(s) {
+        Err(offset) => Err(Answer::refused_at(10, offset)),
+        Ok(()) => within(cap, decode(s, &mut 0)),
     }
 }
 
-fn turned(path: Option<Vec<Way>>, turn: Way) -> Option<Vec<Way>> {
-    path.map(|mut path| {
-        path.push(turn);
-        path
+/// 1, then 2.
+fn granted(in_bounds: bool, cap: u64, lent: Lengths) -> Result<(), Answer> {
+    if !in_bounds || !(1..=MOST_NODES).contains(&cap) {
+        Err(Answer::refused(1))
+    } else if (lent.out as u64) < 9 * cap || (lent.room as u64) < 8 * cap {
+        Err(Answer::refused(2))
+    } else {
+        Ok(())
+    }
+}
+
+fn asked(query: Query, t: &Term) -> u64 {
+    match query {
+        Query::Nodes => nodes(t),
+        Query::Height => height(t),
+        Query::MaxDepth => max_depth(t) as u64,
+        Query::MaxFreeIndex => max_free_index(t, 0) as u64,
+        Query::HasFreeVariables => !closed(t, 0) as u64,
+        Query::IsSupercombinator => closed(t, 0) as u64,
+    }
+}
+
+fn equal(first: &[u8], second: &[u8]) -> Result<Outcome, Answer> {
+    let t = checked(MOST_NODES, first)?;
+    let u = checked(MOST_NODES, second)?;
+    Ok(Outcome::number((t == u) as u64))
+}
+
+/// The text of any coded term.
+pub fn written(notation: u64, s: &[u8]) -> Result<String, Answer> {
+    if notation > CLASSIC {
+        return Err(Answer::refused(1));
+    }
+    let t = checked(MOST_NODES, s)?;
+    Ok(if notation == CLASSIC {
+        classic(&t)
+    } else {
+        de_bruijn(&t)
     })
 }
 
-pub fn steps_left(order: Order, t: &Term) -> bool {
-    place(order, t).is_some()
-}
-
-fn raise(t: &Term, by: u128, depth: u128) -> Term {
-    match t {
-        Var(i) if *i > depth => Var(i + by),
-        Var(i) => Var(*i),
-        Abs(b) => abs(raise(b, by, depth + 1)),
-        App(l, r) => app(raise(l, by, depth), raise(r, by, depth)),
+fn printed(notation: u64, s: &[u8], room: usize) -> Result<Outcome, Answer> {
+    let text = written(notation, s)?.into_bytes();
+    if text.len() > room {
+        return Err(Answer {
+            value: text.len() as u64,
+            ..Answer::refused(13)
+        });
     }
+    Ok(Outcome::stored(text))
 }
 
-/// The argument put into a body that lies at a depth.
-fn put(body: &Term, depth: u128, argument: &Term) -> Term {
-    match body {
-        Var(i) if *i == depth => raise(argument, depth - 1, 0),
-        Var(i) if *i > depth => Var(i - 1),
-        Var(i) => Var(*i),
-        Abs(b) => abs(put(b, depth + 1, argument)),
-        App(l, r) => app(put(l, depth, argument), put(r, depth, argument)),
-    }
+fn applied(cap: u64, abstraction: &[u8], argument: &[u8]) -> Result<Outcome, Answer> {
+    let t = checked(cap, abstraction)?;
+    let argument = checked(cap, argument)?;
+    let Abs(body) = t else {
+        return Err(Answer::refused(11));
+    };
+    let next = within(cap, put(&body, 1, &argument))?;
+    Ok(Outcome::stored(bytes(&next)))
 }
 
-fn contract(t: &mut Term, path: &[Way]) {
-    match (t, path) {
-        (Abs(b), [rest @ .., _]) => contract(b, rest),
-        (App(l, _), [rest @ .., Left(_)]) => contract(l, rest),
-        (App(_, r), [rest @ .., _]) => contract(r, rest),
-        (t, _) => {
-            let App(l, r) = &*t else { unreachable!() };
-            let Abs(body) = &**l else { unreachable!() };
-            *t = put(body, 1, r);
+fn outcome_or_refusal(call: &Call, lent: Lengths) -> Result<Outcome, Answer> {
+    match *call {
+        Call::Query(query, s) => Ok(Outcome::number(asked(query, &checked(MOST_NODES, s)?))),
+        Call::Equality(s, u) => equal(s, u),
+        Call::Print { notation, term } => printed(notation, term, lent.out),
+        Call::Parse {
+            notation,
+            cap,
+            text,
+        } => {
+            granted(notation <= CLASSIC, cap, lent)?;
+            let t = within(cap, read(notation, text)?)?;
+            Ok(Outcome::stored(bytes(&t)))
+        }
+        Call::Apply {
+            cap,
+            abstraction,
+            argument,
+        } => {
+            granted(true, cap, lent)?;
+            applied(cap, abstraction, argument)
+        }
+        Call::Eta { limit, cap, term } => {
+            granted(true, cap, lent)?;
+            Ok(eta(limit, checked(cap, term)?))
+        }
+        Call::Reduce {
+            order,
+            limit,
+            cap,
+            term,
+        } => {
+            let order = ORDERS.get(order as usize);
+            let in_bounds = order.is_some() && (1..=MOST_STEPS).contains(&limit);
+            granted(in_bounds, cap, lent)?;
+            Ok(reduce(*order.unwrap(), limit, cap, checked(cap, term)?))
         }
     }
 }
 
-#[derive(Clone, PartialEq, Eq, Debug)]
-pub enum End {
-    Finished(u64, Vec<u8>),
-    Unfinished(u64, Vec<u8>),
-    Refused {
-        number: u64,
-        steps: u64,
-        offset: u64,
-    },
-}
-
-fn refused(number: u64, steps: u64, offset: u64) -> End {
-    End::Refused {
-        number,
-        steps,
-        offset,
-    }
-}
-
-/// 12, 7, then 9 of a term.
-fn judge(t: &Term, cap: u64) -> Option<u64> {
-    if greatest_index(t) > u64::MAX as u128 {
-        Some(12)
-    } else if height(t) > 512 {
-        Some(7)
-    } else if nodes(t) > cap {
-        Some(9)
-    } else {
-        None
-    }
-}
-
-/// One call: a limit, a cap, whether enough output and room is lent, and any bytes.
-pub fn reduce(order: Order, limit: u64, cap: u64, enough: bool, s: &[u8]) -> End {
-    if !(1..=65_536).contains(&cap) || !(1..=1_000_000).contains(&limit) {
-        return refused(1, 0, 0);
-    }
-    if !enough {
-        return refused(2, 0, 0);
-    }
-    if let Err(offset) = scan(s) {
-        return refused(10, 0, offset);
-    }
-    let mut t = decode(s, &mut 0);
-    if let Some(number) = judge(&t, cap) {
-        return refused(number, 0, 0);
-    }
-    let mut steps = 0;
-    while let Some(path) = place(order, &t) {
-        if steps == limit {
-            return End::Unfinished(steps, bytes(&t));
-        }
-        contract(&mut t, &path);
-        if let Some(number) = judge(&t, cap) {
-            return refused(number, steps, 0);
-        }
-        steps += 1;
-    }
-    End::Finished(steps, bytes(&t))
+pub fn outcome(call: &Call, lent: Lengths) -> Outcome {
+    outcome_or_refusal(call, lent).into()
 }

@@ -1,7 +1,7 @@
 //! The terms that are timed, with the orders in which that is sensible.
 use crate::random::*;
-use crate::reference::Order::*;
-use crate::reference::{Order, ORDERS};
+use crate::reduction::Order::*;
+use crate::reduction::{Order, ORDERS};
 use crate::term::*;
 
 pub struct Row {

@@ -52,12 +52,21 @@ pub fn greatest_index(t: &Term) -> u128 {
     }
 }
 
-/// No index is 0 or free, so that the classic text can be read again.
+/// No index is 0 or free.
 pub fn closed(t: &Term, depth: u128) -> bool {
     match t {
         Var(i) => 1 <= *i && *i <= depth,
         Abs(b) => closed(b, depth + 1),
         App(l, r) => closed(l, depth) && closed(r, depth),
+    }
+}
+
+/// The greatest of index minus depth, floored at 0.
+pub fn max_free_index(t: &Term, depth: u128) -> u128 {
+    match t {
+        Var(i) => i.saturating_sub(depth),
+        Abs(b) => max_free_index(b, depth + 1),
+        App(l, r) => max_free_index(l, depth).max(max_free_index(r, depth)),
     }
 }
 
@@ -127,24 +136,36 @@ pub fn decode(s: &[u8], at: &mut usize) -> Term {
     }
 }
 
-fn grouped(text: String, yes: bool) -> String {
+/// Writes a part, in parentheses or not.
+fn grouped(out: &mut String, yes: bool, part: impl FnOnce(&mut String)) {
     if yes {
-        format!("({text})")
-    } else {
-        text
+        out.push('(');
+    }
+    part(out);
+    if yes {
+        out.push(')');
+    }
+}
+
+fn write_de_bruijn(t: &Term, out: &mut String) {
+    match t {
+        Var(i) if 1 <= *i && *i <= 15 => *out += &format!("{i:X}"),
+        Var(i) => *out += &format!("[{i:X}]"),
+        Abs(b) => {
+            out.push('λ');
+            write_de_bruijn(b, out);
+        }
+        App(l, r) => {
+            grouped(out, matches!(**l, Abs(_)), |out| write_de_bruijn(l, out));
+            grouped(out, !matches!(**r, Var(_)), |out| write_de_bruijn(r, out));
+        }
     }
 }
 
 pub fn de_bruijn(t: &Term) -> String {
-    match t {
-        Var(i) if 1 <= *i && *i <= 15 => format!("{i:X}"),
-        Var(i) => format!("[{i:X}]"),
-        Abs(b) => format!("λ{}", de_bruijn(b)),
-        App(l, r) => {
-            grouped(de_bruijn(l), matches!(**l, Abs(_)))
-                + &grouped(de_bruijn(r), !matches!(**r, Var(_)))
-        }
-    }
+    let mut out = String::new();
+    write_de_bruijn(t, &mut out);
+    out
 }
 
 /// Name 0 is a, 25 z, 26 aa.
@@ -157,7 +178,7 @@ fn name(number: u128) -> String {
     }
 }
 
-fn max_depth(t: &Term) -> u128 {
+pub fn max_depth(t: &Term) -> u128 {
     match t {
         Var(_) => 0,
         Abs(b) => 1 + max_depth(b),
@@ -165,22 +186,29 @@ fn max_depth(t: &Term) -> u128 {
     }
 }
 
-fn classic_at(t: &Term, depth: u128, most: u128) -> String {
+/// At a depth, in a term with so many abstractions on a path at most.
+fn write_classic(t: &Term, depth: u128, most: u128, out: &mut String) {
     match t {
-        Var(0) => "undefined".to_string(),
-        Var(i) if *i <= depth => name(depth - i),
-        Var(i) => name((most + i - depth).min(u64::MAX as u128) - 1),
-        Abs(b) => format!("λ{}.{}", name(depth), classic_at(b, depth + 1, most)),
+        Var(0) => *out += "undefined",
+        Var(i) if *i <= depth => *out += &name(depth - i),
+        Var(i) => *out += &name((most + i - depth).min(u64::MAX as u128) - 1),
+        Abs(b) => {
+            *out += &format!("λ{}.", name(depth));
+            write_classic(b, depth + 1, most, out);
+        }
         App(l, r) => {
-            let left = grouped(classic_at(l, depth, most), matches!(**l, Abs(_)));
-            let right = grouped(classic_at(r, depth, most), !matches!(**r, Var(_)));
-            format!("{left} {right}")
+            let part = |t: &Term, out: &mut String| write_classic(t, depth, most, out);
+            grouped(out, matches!(**l, Abs(_)), |out| part(l, out));
+            out.push(' ');
+            grouped(out, !matches!(**r, Var(_)), |out| part(r, out));
         }
     }
 }
 
 pub fn classic(t: &Term) -> String {
-    classic_at(t, 0, max_depth(t))
+    let mut out = String::new();
+    write_classic(t, 0, max_depth(t), &mut out);
+    out
 }
 
 pub fn hex(s: &[u8]) -> String {

@@ -2,7 +2,7 @@
 use crate::case::Case;
 use crate::original;
 use crate::program;
-use crate::reference::Order::NOR;
+use crate::reduction::Order::NOR;
 use crate::rows::{rows, Row};
 use crate::term::*;
 use std::env;

@@ -1,11 +1,11 @@
-//! The program's input and what it must answer, for the gate: no Rust is at hand there.
-use crate::case::Form;
-use crate::differ;
+//! The input of reduce_main and what it must answer, for the gate: no Rust is at hand there.
+use crate::case::{Case, Form};
 use crate::examples::{self, Example};
 use crate::lines::{Line, Lines};
+use crate::posed;
 use crate::random::*;
-use crate::reference::Order::*;
-use crate::reference::ORDERS;
+use crate::reduction::Order::*;
+use crate::reduction::ORDERS;
 use crate::term::*;
 use std::fs;
 
@@ -222,7 +222,8 @@ fn random(lines: &mut Lines) {
     lines.title("random terms under tight caps");
     let mut r = Random(20_261_115);
     for _ in 0..400 {
-        lines.case(differ::any(&mut r));
+        let posed = posed::any(&mut r);
+        lines.case(Case::of_posed(&mut r, &posed));
     }
 }
 
