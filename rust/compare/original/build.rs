@@ -1,4 +1,4 @@
-//! Copies the original's files from the folder that ORIGINAL names, by default ../shared/docs/src beside the repository.
+//! Copies the original's files from the folder that ORIGINAL names, by default shared/docs/src beside the repository.
 use std::path::Path;
 use std::{env, fs};
 

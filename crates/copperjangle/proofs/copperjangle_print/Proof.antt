@@ -1,4 +1,5 @@
 -- `copperjangle::copperjangle_print` meets its contract: the notation that the number names, or 1.
+use native.Mathlib.Omega.{arith}
 use borrow.Author.Needs.{needs}
 use Rattle.printer.specs.Answers.{printed-told}
 use Rattle.copperjangle.specs.Numbers.{notations}
@@ -11,7 +12,9 @@ use Rattle.copperjangle.proofs.copperjangle_print.Tie as tie
 
 returns : tie.Need-returns
 unfolding print-numbered
-returns c = rw (c .refused .ensures, names-none notations _ (c .before .if1 .taken))
+returns c =
+    let start = c .before .before .before .before in
+    rw (c .refused .ensures, names-none notations (start .args .notation) (omega arith))
 
 returns-2 : tie.Need-returns-2
 unfolding print-numbered number-in-numbers printed-told
