@@ -89,7 +89,17 @@ static void ask_print(void)
     print_case("10 by print", COPPERJANGLE_CLASSIC, "@1", 5, (answer){ .refusal = 10, .place = 10 }, "");
     print_case("13: a text of 11 bytes in 10", COPPERJANGLE_DE_BRUIJN, "@\\@11\\1", 10,
         (answer){ .refusal = 13, .value = 11 }, "");
-    print_case("13: how long is the text", COPPERJANGLE_CLASSIC, "\\1", 0, (answer){ .refusal = 13, .value = 5 }, "");
+}
+
+/* A pointer of length 0 may be NULL. */
+static void ask_by_null(void)
+{
+    const uint8_t identity[] = { 2, 1, 1, 0, 0, 0, 0, 0, 0, 0 }, one[] = { '1' };
+    judge("10: no bytes, by NULL", copperjangle_nodes(NULL, 0), (answer){ .refusal = 10 }, 1);
+    judge("13: how long is the text", copperjangle_print(COPPERJANGLE_CLASSIC, identity, sizeof identity, NULL, 0),
+        (answer){ .refusal = 13, .value = 5 }, 1);
+    judge("2: nothing lent", copperjangle_parse(COPPERJANGLE_DE_BRUIJN, 1, one, sizeof one, NULL, 0, NULL, 0),
+        (answer){ .refusal = 2 }, 1);
 }
 
 enum entry { PARSE, APPLY, ETA, REDUCE };
@@ -210,7 +220,7 @@ int main(void)
     show("(\\11)(\\1)");
     ask_queries();
     ask_large();
-    judge("10: length 0, by NULL", copperjangle_nodes(NULL, 0), (answer){ .refusal = 10 }, 1);
+    ask_by_null();
     ask_equality("equality of \\1 and \\1", "\\1", "\\1", (answer){ .value = 1 });
     ask_equality("equality of \\1 and \\2", "\\1", "\\2", (answer){ .value = 0 });
     ask_equality("10 of the second", "\\1", "?", (answer){ .refusal = 10, .place = 0 });

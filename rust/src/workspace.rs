@@ -18,8 +18,8 @@ const NODES_AT_FIRST: usize = 1024;
 /// never more.
 ///
 /// A reduction is tried in room for 1,024 nodes, and begun anew in all room if the term outgrows
-/// that: the room is cleared after every call, which takes about 2 microseconds for 1,024 nodes,
-/// and 170 for 65,536 (as measured in `docs/BENCHMARKS.md`).
+/// that: the room is cleared after every call, which takes longer the greater the cap is
+/// (`docs/BENCHMARKS.md`).
 ///
 /// ```
 /// use copperjangle::*;
@@ -127,7 +127,7 @@ impl Workspace {
         if answer.refusal == 9 && self.cap.get() > NODES_AT_FIRST {
             answer = ffi::reduce(order, limit, code, self.lend(usize::MAX));
         }
-        self.outcome_told(&answer)
+        self.outcome_told(&answer, term)
     }
 
     /// As [`Term::eta`], under this workspace's cap.
@@ -138,7 +138,7 @@ impl Workspace {
     /// let mut workspace = Workspace::new(Cap::new(4).unwrap());
     /// assert_eq!(workspace.eta(&parse(r"\21", DeBruijn)?, 0)?.into_term(), Var(1));
     /// let refusal = workspace.eta(&parse(r"\\321", DeBruijn)?, 0).unwrap_err();
-    /// assert_eq!(refusal, Refusal::TooManyNodes { steps: Some(0) });
+    /// assert_eq!(refusal, Refusal::TooManyNodes { steps: None });
     /// # Ok::<(), Refusal>(())
     /// ```
     ///
@@ -149,7 +149,7 @@ impl Workspace {
         // A node takes a byte, and eta makes no term larger.
         let most = term.as_bytes().len();
         let answer = ffi::eta(limit, term.as_bytes(), self.lend(most));
-        self.outcome_told(&answer)
+        self.outcome_told(&answer, term)
     }
 
     /// All memory, under a cap of so many nodes or the workspace's. Where no term can have more, the
@@ -174,10 +174,12 @@ impl Workspace {
         }
     }
 
-    fn outcome_told(&self, answer: &Answer) -> Result<Outcome, Refusal> {
+    fn outcome_told(&self, answer: &Answer, term: &Term) -> Result<Outcome, Refusal> {
         let steps = answer.steps as usize;
         if answer.refusal != 0 {
-            return Err(Refusal::told(answer, "", Some(steps)));
+            // A term that is itself above the cap is not refused at a step.
+            let begun = term.nodes() <= self.cap.get();
+            return Err(Refusal::told(answer, "", begun.then_some(steps)));
         }
         let term = self.written(answer);
         Ok(match answer.finished {
@@ -244,7 +246,7 @@ mod tests {
 
         let code = term.as_bytes();
         let answer = ffi::eta(0, code, workspace.lend(all));
-        let shrunk = workspace.outcome_told(&answer);
+        let shrunk = workspace.outcome_told(&answer, &term);
         assert_eq!(workspace.eta(&term, 0), shrunk);
         let answer = ffi::apply(code, code, workspace.lend(all));
         let applied = workspace.term_told(&answer, "");

@@ -133,9 +133,14 @@ fn no_9_terms_above_the_cap_of_a_workspace() {
     says(small.parse("11111", DeBruijn).unwrap_err(), 9, start);
     let omega = de_bruijn(r"(\11)(\11)");
     says(small.apply(&omega, &Var(1)).unwrap_err(), 9, start);
+    says(small.reduce(&omega, NOR, limit(1)).unwrap_err(), 9, start);
+    says(small.eta(&omega, 0).unwrap_err(), 9, start);
+
+    // It has 12 nodes, and would have 17.
+    let mut twelve = Workspace::new(Cap::new(12).unwrap());
+    let refusal = twelve.reduce(&de_bruijn(r"(\111)(111)"), NOR, limit(1));
     let first = "at the first step the term has more nodes than the cap; take another order";
-    says(small.reduce(&omega, NOR, limit(1)).unwrap_err(), 9, first);
-    says(small.eta(&omega, 0).unwrap_err(), 9, first);
+    says(refusal.unwrap_err(), 9, first);
 
     // It has 15 nodes, then 12, and would have 17.
     let term = de_bruijn(r"(\1)((\111)(111))");
