@@ -8,6 +8,7 @@ pub mod Finishing
 pub mod Values
 pub mod Meaning
 pub mod Final
+pub mod Scripts
 pub mod EtaFinal
 pub mod Tokens
 pub mod Walked
