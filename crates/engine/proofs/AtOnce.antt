@@ -19,12 +19,11 @@ use Rattle.nodes.proofs.Keeping.{says, same-refl}
 use Rattle.nodes.proofs.Holding.{indices-fit}
 use Rattle.substitution.specs.Placing.{Places}
 use Rattle.substitution.specs.Weighing.{deepest, Occurring, Bursts}
-use Rattle.substitution.specs.declared.Made.{Made}
+use Rattle.substitution.specs.Raising.{Made}
 use Rattle.substitution.proofs.Overflowing.{at-known}
 use Rattle.substitution.proofs.Bursting.{at-none, argument-asks, at-some}
-use Rattle.engine.specs.Running.{halted}
-use Rattle.engine.specs.Contracting.{Redex, Contractible, Assured, advanced, most-of, spent, Contracted}
-use Rattle.engine.specs.declared.contracting.State.{State}
+use Rattle.engine.specs.Contracting.{Redex, Contractible, Assured, most-of, spent, Contracted}
+use Rattle.engine.specs.States.{State, halted, advanced}
 use Rattle.engine.proofs.Contractions.{stays, at-high, at-many, at-made}
 use Rattle.engine.proofs.Phases.{Fit}
 

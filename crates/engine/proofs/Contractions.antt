@@ -8,13 +8,12 @@ use Rattle.calculus.specs.Bounds.{most-height, greatest-number}
 use Rattle.calculus.specs.Substitution.{contract}
 use Rattle.nodes.specs.Store.{Same}
 use Rattle.substitution.specs.Placing.{Placeable, Places}
-use Rattle.substitution.specs.declared.Made.{Made}
+use Rattle.substitution.specs.Raising.{Made}
 use Rattle.substitution.proofs.Counting.{within}
 use Rattle.engine.specs.Judging.{tells-high, tells-many}
-use Rattle.engine.specs.Running.{halted}
-use Rattle.engine.specs.Contracting.{Contractible, Assured, advanced, most-of}
+use Rattle.engine.specs.Contracting.{Contractible, Assured, most-of}
 use Rattle.engine.specs.Contracting.{Why, refuses, Contracted, made, not-made}
-use Rattle.engine.specs.declared.contracting.State.{State}
+use Rattle.engine.specs.States.{State, halted, advanced}
 use Rattle.engine.proofs.Parts.{accepts-part, refused-high, refused-many}
 
 -- it is not made, and what was there is kept
@@ -59,6 +58,13 @@ module _ {b a : Term} {depth most : ℕ} {s : State} {body argument : ℕ} {room
         low = omega (arith, within 0 a b .low, can .deep);
         small = sure .index-small;
       }
+
+  -- the number of its node is small
+  pub made-low : {put : Made} {after : List ℕ} → Places room (s .used) body 0 argument put after
+      → put .node < 4294967296
+  made-low places =
+      let can = sure .can in
+      omega (arith, places .below, places .most b a (can .holds) (can .holds-put), sure .space, can .small)
 
   pub at-made : {put : Made} {after : List ℕ} → Places room (s .used) body 0 argument put after
       → depth + height (contract b a) ≤ most-height → {size : ℕ} → size ≡ nodes (contract b a) → size ≤ most

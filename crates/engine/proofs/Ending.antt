@@ -18,7 +18,7 @@ use Rattle.engine.specs.Judging.{judge-at, Tells, tells-high, tells-many
 use Rattle.engine.specs.Running.{Stops, rested, stepped, spent, full, refuses}
 use Rattle.engine.specs.Stepping as stepping
 use Rattle.engine.specs.Stepping.{Rooted, Ended, Steppable, Found, Steps, finishes, leaves}
-use Rattle.engine.specs.declared.contracting.State.{State}
+use Rattle.engine.specs.States.{State, standing}
 use Rattle.engine.specs.declared.Reached.the-variants.{Finished, Unfinished, Refused}
 use Rattle.engine.proofs.Parts.{judge-root}
 use Rattle.engine.proofs.Phases.{tells-above, rests}
@@ -59,7 +59,7 @@ module _ {o : Order} {most budget : ℕ} {t : Term} where
 
 -- THE STATE AT FIRST
 abbrev pub begun : (cap limit used : ℕ) → State
-begun cap limit used = record { node = used - 1; used = used; budget = limit; spare = cap - used; stop = 0 }
+begun cap limit used = standing (used - 1) used limit (cap - used)
 
 module _ {t : Term} {cap : ℕ} {store : List ℕ} {used : ℕ} (can : Steppable t cap store used) where
   pub some-used : 0 < used

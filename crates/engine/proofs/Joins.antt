@@ -9,9 +9,9 @@ use Rattle.nodes.specs.Packing.{nodes-in, height-in}
 use Rattle.nodes.specs.Store.{Holds, Same, word, link}
 use Rattle.nodes.proofs.Keeping.{same-then, says}
 use Rattle.nodes.proofs.Holding.{held-once}
-use Rattle.engine.specs.Running.{Start, renoded, Kept, unmoved, moved}
+use Rattle.engine.specs.Running.{Start, Kept, unmoved, moved}
 use Rattle.engine.specs.Joining.{Body, Together, together, apart, Parts, Joined}
-use Rattle.engine.specs.declared.contracting.State.{State}
+use Rattle.engine.specs.States.{State, renoded}
 
 -- after a step, there is room for the node and those above
 record Roomy (steps depth used long : ℕ) : Type 0 where
@@ -57,6 +57,13 @@ module _ {steps depth : ℕ} {a : Start} (s : State) {room : List ℕ} (t : Term
 -- AN ABSTRACTION
 module _ {steps depth : ℕ} {a : Start} {b : Term} {s : State} {room : List ℕ} (body : Body steps depth a b s room)
     {whole : ℕ} (whole-is : whole ≡ a .node) where
+  -- the numbers of nodes are small
+  pub body-low : (whole < 4294967296) × (s .used < 4294967296)
+  body-low = (
+    omega (arith, whole-is, body .begun, body .grows, body .inside, body .small),
+    omega (arith, body .inside, body .small),
+  )
+
   same-body : link room (a .node) ≡ s .node → lam b ≡ a .term
   unfolding Holds
   same-body here =
@@ -109,6 +116,12 @@ module _ {steps depth : ℕ} {a : Start} {b : Term} {s : State} {room : List ℕ
 module _ {steps depth : ℕ} {a : Start} {l r : Term} {left right : ℕ} (s : State) {room : List ℕ}
     (parts : Parts steps depth a l r left right (s .used) room) {whole : ℕ} (whole-is : whole ≡ a .node)
     {both : ℕ} (both-are : both ≡ left + 4294967296 * right) where
+  pub parts-low : (whole < 4294967296) × (s .used < 4294967296)
+  parts-low = (
+    omega (arith, whole-is, parts .begun, parts .grows, parts .inside, parts .small),
+    omega (arith, parts .inside, parts .small),
+  )
+
   same-parts : link room (a .node) ≡ both → app l r ≡ a .term
   unfolding Holds
   same-parts here =

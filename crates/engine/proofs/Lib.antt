@@ -7,6 +7,8 @@ pub mod Joins
 pub mod Phases
 pub mod AtOnce
 pub mod Runs
+pub mod Told
+pub mod AtRest
 pub mod Redexes
 pub mod Places
 pub mod Renewing

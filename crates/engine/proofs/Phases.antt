@@ -19,10 +19,10 @@ use Rattle.nodes.specs.Store.{Holds, link}
 use Rattle.nodes.proofs.Keeping.{same-refl, same-then, holds-kept}
 use Rattle.nodes.proofs.Holding.{indices-fit}
 use Rattle.engine.specs.Judging.{judge-at, Tells, tells-high, tells-many, tells-great}
-use Rattle.engine.specs.Running.{Start, started, most, placed, Stops, rested, stepped, spent, full, refuses}
+use Rattle.engine.specs.Running.{Start, started, most, Stops, rested, stepped, spent, full, refuses}
 use Rattle.engine.specs.Running.{Kept, unmoved, moved, Ready, Ran}
 use Rattle.engine.specs.Joining.{Together, together, apart, Parted}
-use Rattle.engine.specs.declared.contracting.State.{State}
+use Rattle.engine.specs.States.{State, placed}
 use Rattle.engine.proofs.Parts.{Beside}
 use Rattle.engine.proofs.Frames.{Frame, Always, Neutral, lifted, lifted-stop}
 use Rattle.engine.proofs.Frames.{spine-frame, early-frame, left-frame, late-frame}

@@ -13,9 +13,9 @@ use Rattle.nodes.specs.Packing.{kind-in}
 use Rattle.nodes.specs.Store.{word, link}
 use Rattle.nodes.proofs.Parts.{HeldApplication}
 use Rattle.nodes.proofs.Holding.{is-application}
-use Rattle.engine.specs.Running.{Start, started, most, placed, Ready, Rested, Ran, Runs}
+use Rattle.engine.specs.Running.{Start, started, most, Ready, Rested, Ran, Runs}
 use Rattle.engine.specs.Joining.{Parts, Joined, Parted, Here, Resting}
-use Rattle.engine.specs.declared.contracting.State.{State}
+use Rattle.engine.specs.States.{State, placed}
 use Rattle.engine.proofs.Frames.{Frame, Always, always, Neutral, lifted, rests-hybrid}
 use Rattle.engine.proofs.Phases.{rests, Fit, Halts, begun, left-asks, right-asks, at-spine, at-early, at-left}
 use Rattle.engine.proofs.Phases.{at-late, left-then, left-halts, right-then, right-halts}

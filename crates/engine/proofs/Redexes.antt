@@ -23,7 +23,7 @@ use Rattle.engine.specs.Running.{Start, most, Stops, rested, stepped, sp
 use Rattle.engine.specs.Joining.{Together, together, apart, Parts, Here, Resting}
 use Rattle.engine.specs.Contracting as contracting
 use Rattle.engine.specs.Contracting.{Redex, most-of, Contracted, Makes, Why, made, not-made}
-use Rattle.engine.specs.declared.contracting.State.{State}
+use Rattle.engine.specs.States.{State}
 use Rattle.engine.proofs.Frames.{Neutral, rests-plain}
 use Rattle.engine.proofs.Phases.{tells-above, unused, Halts}
 

@@ -18,10 +18,10 @@ use Rattle.nodes.specs.Store.{Holds, Same, variable, word, link}
 use Rattle.nodes.proofs.Keeping.{same-refl, same-then, holds-kept, says}
 use Rattle.nodes.proofs.Holding.{is-variable, is-abstraction, is-application}
 use Rattle.engine.specs.Judging.{judge-at}
-use Rattle.engine.specs.Running.{Start, started, most, placed, halted, Stops, rested}
+use Rattle.engine.specs.Running.{Start, started, most, Stops, rested}
 use Rattle.engine.specs.Running.{Kept, unmoved, moved, Ready, Ran, Runs}
 use Rattle.engine.specs.Joining.{Body, Joined}
-use Rattle.engine.specs.declared.contracting.State.{State}
+use Rattle.engine.specs.States.{State, placed, halted}
 use Rattle.engine.proofs.Frames.{normal-stuck, Frame, Always, always, lifted, body-frame}
 use Rattle.engine.proofs.Phases.{rests, lifted-end}
 
@@ -241,6 +241,7 @@ module _ {depth : ℕ} {b : Term} {s : State} {room : List ℕ} (ready : Ready (
           below = body-ran .below;
           grows = body-ran .grows;
           inside = body-ran .inside;
+          small = omega (arith, body-ran .same .as-long, ready .small);
           low = omega (arith, body-ran .deep);
           few = omega (arith, body-ran .size, ready .few);
           kept = rw link-same (body-ran .kept);

@@ -15,7 +15,7 @@ use Rattle.nodes.proofs.Keeping.{holds-moved}
 use Rattle.engine.specs.Running.{Ready, Ran, Runs, started}
 use Rattle.engine.specs.Moving.{from-base, Copiable, Copies, Movable, Moves}
 use Rattle.engine.specs.Stepping.{Rooted, RunsFirst, Renewed, Onward, Ended}
-use Rattle.engine.specs.declared.contracting.State.{State}
+use Rattle.engine.specs.States.{State, standing}
 
 module _ {t : Term} {cap : ℕ} {s : State} {store : List ℕ} (at : Rooted t cap s store) where
   -- ROUNDS in the first part of the store
@@ -47,18 +47,18 @@ module _ {t : Term} {cap : ℕ} {s : State} {store : List ℕ} (at : Rooted t ca
       }
 
   -- THE TERM MADE ANEW
-  pub copy-asks : Copiable t store (s .node) (3 * cap) 0
-  copy-asks = record {
-    holds = at .holds;
+  pub copy-asks : {node : ℕ} → s .node ≡ node → Copiable t store node (3 * cap) 0
+  copy-asks is = record {
+    holds = rw is at (at .holds);
     below = omega (arith, at .below, at .few-used);
     fits = omega (arith, at .size, at .room);
     small = omega (arith, at .room, at .in-bounds);
   }
 
-  module _ {top : ℕ} {mid : List ℕ}
-      (copy : (u : Term) → Copiable u store (s .node) (3 * cap) 0 → Copies u store (3 * cap) 0 top mid) where
+  module _ {node : ℕ} (is : s .node ≡ node) {top : ℕ} {mid : List ℕ}
+      (copy : (u : Term) → Copiable u store node (3 * cap) 0 → Copies u store (3 * cap) 0 top mid) where
     copies : Copies t store (3 * cap) 0 top mid
-    copies = copy t copy-asks
+    copies = copy t (copy-asks is)
 
     pub some-copied : 0 < top
     some-copied = omega (arith, copies .made, nodes-positive t)
@@ -71,7 +71,7 @@ module _ {t : Term} {cap : ℕ} {s : State} {store : List ℕ} (at : Rooted t ca
     }
 
     pub renewed : {after : List ℕ} → Moves mid (3 * cap) top after
-        → Renewed t cap s (record { node = top - 1; used = top; budget = s .budget; spare = s .spare; stop = 0 }) after
+        → Renewed t cap s (standing (top - 1) top (s .budget) (s .spare)) after
     renewed {after} moves = record {
       rooted = record {
         in-bounds = at .in-bounds;

@@ -14,13 +14,12 @@ use Rattle.calculus.proofs.Tests.{flipped}
 use Rattle.nodes.proofs.Keeping.{same-refl}
 use Rattle.substitution.specs.Placing.{Placeable, Places}
 use Rattle.substitution.specs.Weighing.{Weighable, Weighs}
-use Rattle.substitution.specs.declared.Made.{Made}
+use Rattle.substitution.specs.Raising.{Made}
 use Rattle.substitution.specs.declared.weighing.Weight.{Weight}
 use Rattle.substitution.proofs.Counting.{within}
 use Rattle.engine.specs.Judging.{tells-great}
-use Rattle.engine.specs.Running.{halted}
-use Rattle.engine.specs.Contracting.{Contractible, Assured, advanced, most-of, full, refuses, Contracted}
-use Rattle.engine.specs.declared.contracting.State.{State}
+use Rattle.engine.specs.Contracting.{Contractible, Assured, most-of, full, refuses, Contracted}
+use Rattle.engine.specs.States.{State, halted, advanced}
 use Rattle.engine.proofs.Parts.{refused-great}
 use Rattle.engine.proofs.Contractions as contractions
 use Rattle.engine.proofs.Contractions.{stays, at-high, at-many}
@@ -94,6 +93,10 @@ module _ {b a : Term} {depth most : ℕ} {s : State} {body argument : ℕ} {room
 
             pub put-asks : Placeable room (s .used) body 0 argument
             put-asks = contractions.put-asks assured
+
+            pub made-low : {put : Made} {after : List ℕ} → Places room (s .used) body 0 argument put after
+                → put .node < 4294967296
+            made-low = contractions.made-low assured
 
             pub at-made : {put : Made} {after : List ℕ} → Places room (s .used) body 0 argument put after → {r : State}
                 → r ≡ advanced s (put .node) (put .used) (most - weight .nodes)

@@ -10,7 +10,7 @@ use Rattle.calculus.specs.Refusal.{Refusal}
 use Rattle.calculus.specs.Substitution.{contract}
 use Rattle.nodes.specs.Store.{Holds, Same}
 use Rattle.engine.specs.Judging.{judge-at, Tells}
-use Rattle.engine.specs.declared.contracting.State.{State}
+use Rattle.engine.specs.States.{State}
 
 -- an abstraction and its argument, so deep in a whole that is within the bounds
 pub record Redex (b a : Term) (depth : ℕ) (s : State) (function argument : ℕ) (room : List ℕ) : Type 0 where
@@ -45,16 +45,6 @@ pub record Assured (b a : Term) (depth most : ℕ) (s : State) (body argument : 
   pub can : Contractible b a depth most s body argument room
   pub space : 2 * (s .used + nodes (contract b a) + depth) ≤ length room
   pub index-small : greatest-index (contract b a) ≤ greatest-number
-
--- the state once a contraction is made
-abbrev pub advanced : State → (node used spare : ℕ) → State
-advanced s node used spare = record {
-  node = node;
-  used = used;
-  budget = s .budget - 1;
-  spare = spare;
-  stop = 1;
-}
 
 -- the contraction is accepted and made
 pub record Makes (b a : Term) (depth : ℕ) (s : State) (before : List ℕ) (r : State) (after : List ℕ) : Type 0 where

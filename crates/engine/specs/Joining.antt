@@ -13,7 +13,7 @@ use Rattle.calculus.specs.Ends.{Accepted}
 use Rattle.nodes.specs.Store.{Holds, Same, link}
 use Rattle.engine.specs.Judging.{judge-at}
 use Rattle.engine.specs.Running.{Start, most, Kept}
-use Rattle.engine.specs.declared.contracting.State.{State}
+use Rattle.engine.specs.States.{State}
 
 -- AN ABSTRACTION, whose body is another term now, at the state's node
 pub record Body (steps depth : ℕ) (a : Start) (b : Term) (s : State) (room : List ℕ) : Type 0 where
@@ -25,6 +25,7 @@ pub record Body (steps depth : ℕ) (a : Start) (b : Term) (s : State) (room : L
   pub below : s .node < s .used
   pub grows : a .used ≤ s .used
   pub inside : 2 * s .used ≤ length room
+  pub small : length room ≤ 8 * most-nodes
   pub low : height (lam b) ≤ most-height
   pub few : nodes (lam b) ≤ most-nodes
   pub kept : Kept steps (depth + 1) (link room (a .node)) (a .used) s (length room)

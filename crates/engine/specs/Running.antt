@@ -11,9 +11,9 @@ use Rattle.calculus.specs.Refusal.{Refusal}
 use Rattle.calculus.specs.Orders.{Order, step}
 use Rattle.calculus.specs.Traits.{spine, hybrid}
 use Rattle.calculus.specs.Ends.{Accepted}
-use Rattle.nodes.specs.Store.{Holds, Same}
+use Rattle.nodes.specs.Store.{Says, Holds, Same}
 use Rattle.engine.specs.Judging.{judge-at, Tells}
-use Rattle.engine.specs.declared.contracting.State.{State}
+use Rattle.engine.specs.States.{State}
 
 -- how a part stood at first: its term and its node, and what else the state said; and the room
 pub record Start : Type 0 where
@@ -37,22 +37,6 @@ started t s room = record {
 -- the most nodes that the part may come to have
 abbrev pub most : Start → ℕ
 most a = nodes (a .term) + a .spare
-
--- the same state at another node to begin at, at one that was made, and stopped
-abbrev pub placed : State → ℕ → State
-placed s node = record { node = node; used = s .used; budget = s .budget; spare = s .spare; stop = 0 }
-
-abbrev pub renoded : State → (node used : ℕ) → State
-renoded s node used = record {
-  node = node;
-  used = used;
-  budget = s .budget;
-  spare = s .spare;
-  stop = s .stop;
-}
-
-abbrev pub halted : State → ℕ → State
-halted s stop = record { node = s .node; used = s .used; budget = s .budget; spare = s .spare; stop = stop }
 
 -- why a run stops at a term
 pub data Stops (o : Order) (depth most budget : ℕ) (t : Term) : ℕ → Type 0 where
@@ -89,6 +73,10 @@ pub record Rested (o : Order) (t : Term) (room : List ℕ) (depth : ℕ) (s : St
   pub stuck : step (spine o) t ≡ none
   pub is-hybrid : hybrid o ≡ true
 
+-- whatever term has this first number, the order has no step in it
+abbrev pub Rests : Order → ℕ → Type 0
+Rests o w = (t : Term) → Says w t → step o t ≡ none
+
 -- STEPS OF THE ORDER, each to a term that is accepted, to the term that the node is now, and why they stop there
 pub record Ran (o : Order) (depth : ℕ) (a : Start) (s : State) (after : List ℕ) : Type 0 where
   pub term : Term
@@ -109,7 +97,11 @@ pub record Ran (o : Order) (depth : ℕ) (a : Start) (s : State) (after : List �
   -- the room is full before a step only if it was nearly full
   pub filled : s .stop ≡ 3 → steps ≡ 0 → length after < 2 * (a .used + depth + most a)
 
+-- steps in a part that is the term
+abbrev pub RunsOn : (o : Order) (t : Term) (before : List ℕ) (depth : ℕ) (from s : State) (after : List ℕ) → Type 0
+RunsOn o t before depth from s after = Ready t before depth from → Ran o depth (started t from before) s after
+
 -- rounds, the last of which did not end in a contraction here
 pub record Runs (o : Order) (before : List ℕ) (depth : ℕ) (from s : State) (after : List ℕ) : Type 0 where
-  pub ran : (t : Term) → Ready t before depth from → Ran o depth (started t from before) s after
+  pub ran : (t : Term) → RunsOn o t before depth from s after
   pub ended : s .stop ≡ 1 → ⊥

@@ -14,7 +14,7 @@ use Rattle.term.specs.declared.Refusal.{Refusal}
 use Rattle.nodes.specs.Store.{Holds}
 use Rattle.engine.specs.Judging.{judge-at}
 use Rattle.engine.specs.Running.{started, Ran, Stops}
-use Rattle.engine.specs.declared.contracting.State.{State}
+use Rattle.engine.specs.States.{State}
 use Rattle.engine.specs.declared.Reached.{Reached}
 use Rattle.engine.specs.declared.Reached.the-variants.{Finished, Unfinished, Refused}
 

@@ -24,7 +24,7 @@ use Rattle.nodes.specs.Store.{Holds}
 use Rattle.nodes.specs.Coded.{Savable, Saves}
 use Rattle.substitution.specs.Placing.{Placeable, Places}
 use Rattle.substitution.specs.Weighing.{Weighable, Weighs}
-use Rattle.substitution.specs.declared.Made.{Made}
+use Rattle.substitution.specs.Raising.{Made}
 use Rattle.substitution.specs.declared.weighing.Weight.{Weight}
 use Rattle.reduction.specs.Answers.{applied-told}
 use Rattle.reduction.specs.Applying.{Works, Contractible, Contracts}

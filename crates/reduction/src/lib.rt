@@ -46,8 +46,9 @@ fn contract(
     if (cap as u64) < weight.nodes {
         return Applied::Refused(Refusal::TooManyNodes);
     }
-    let made = put_in(store, used, body, 0, argument);
-    Applied::Length(nodes::save(store, made.node, out, 0))
+    let mut top = used;
+    let made = put_in(store, &mut top, body, 0, argument);
+    Applied::Length(nodes::save(store, made, out, 0))
 }
 
 // 11, then the result, of two inputs that are whole terms within the bounds.

@@ -10,7 +10,7 @@ use Rattle.calculus.proofs.Measures.{nodes-positive}
 use Rattle.nodes.specs.Packing.{nodes-in, height-in}
 use Rattle.nodes.specs.Store.{Holds, Same, word}
 use Rattle.nodes.proofs.Keeping.{same-refl, same-then, holds-kept, says}
-use Rattle.substitution.specs.declared.Made.{Made}
+use Rattle.substitution.specs.Raising.{Made}
 
 -- the term has room, and nodes can tell it
 pub record Roomy (room : List ℕ) (used : ℕ) (t : Term) : Type 0 where

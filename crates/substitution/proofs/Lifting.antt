@@ -25,6 +25,13 @@ by-index P k d i stays moves = by-test (leb i d)
     by-test true = stays
     by-test false = moves
 
+-- raised by nothing, a term is the same
+pub raise-nothing : (d : ℕ) (t : Term) → raise 0 d t ≡ t
+unfolding raise
+raise-nothing d (var i) = by-index (λ u. u ≡ var i) 0 d i refl (ap var (omega arith))
+raise-nothing d (lam b) = ap lam (raise-nothing (suc d) b)
+raise-nothing d (app l r) = ap₂ app (raise-nothing d l) (raise-nothing d r)
+
 pub raise-stays : (k : ℕ) {f d : ℕ} (t : Term) → f ≤ d → max-free f t ≡ 0 → raise k d t ≡ t
 unfolding raise max-free
 raise-stays k {f} {d} (var i) le h = raise-bound k d i (omega arith)

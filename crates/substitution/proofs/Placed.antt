@@ -13,7 +13,7 @@ use Rattle.nodes.specs.Store.{Holds, Same, word, link}
 use Rattle.nodes.proofs.Keeping.{holds-kept, says}
 use Rattle.substitution.specs.Raising.{Raisable, Raises}
 use Rattle.substitution.specs.Placing.{Placeable, Places}
-use Rattle.substitution.specs.declared.Made.{Made}
+use Rattle.substitution.specs.Raising.{Made}
 use Rattle.substitution.proofs.Lifting.{height-raise}
 use Rattle.nodes.proofs.Holding.{held-once, is-variable}
 use Rattle.substitution.proofs.Copying.{Copied, shared, one-fits, new-variable, left-kept}

@@ -14,8 +14,8 @@ use Rattle.nodes.specs.Store.{Says, Holds, Same, word, link}
 use Rattle.nodes.proofs.Keeping.{says}
 use Rattle.nodes.proofs.Making.{abstraction-made, application-made}
 use Rattle.substitution.specs.Raising.{lifted, Raisable, Raises}
-use Rattle.substitution.specs.declared.Made.{Made}
-use Rattle.substitution.proofs.Lifting.{raise-stays, height-raise, says-lifted}
+use Rattle.substitution.specs.Raising.{Made}
+use Rattle.substitution.proofs.Lifting.{raise-nothing, raise-stays, height-raise, says-lifted}
 use Rattle.nodes.proofs.Holding.{held-once, is-variable}
 use Rattle.substitution.proofs.Copying.{Copied, shared, one-fits, new-variable, left-kept}
 use Rattle.substitution.proofs.Walking.{Walks, Copyable, held-body, body-is, body-can, lam-asks, lam-copied}
@@ -89,6 +89,9 @@ module _ {room : List ℕ} {used node amount depth : ℕ} (asked : Raisable room
   stays : raise amount depth (asked .term) ≡ asked .term
       → Raises room used node amount depth (record { node = node; used = used }) room
   stays e = copied-raises (shared (asked .below) (rw e (asked .holds)))
+
+  pub at-nothing : amount ≡ 0 → Raises room used node amount depth (record { node = node; used = used }) room
+  at-nothing zero = stays (rw zero (raise-nothing depth (asked .term)))
 
   pub at-shared : free-in (word room node) ≤ depth
       → Raises room used node amount depth (record { node = node; used = used }) room

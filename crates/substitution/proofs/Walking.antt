@@ -9,7 +9,7 @@ use Rattle.nodes.specs.Packing.{kind-in, nodes-in, height-in}
 use Rattle.nodes.specs.Store.{Holds, Same, word, link}
 use Rattle.nodes.proofs.Keeping.{holds-kept}
 use Rattle.nodes.proofs.Parts.{HeldAbstraction, HeldApplication}
-use Rattle.substitution.specs.declared.Made.{Made}
+use Rattle.substitution.specs.Raising.{Made}
 use Rattle.nodes.proofs.Holding.{is-abstraction, is-application}
 use Rattle.substitution.proofs.Copying.{Roomy, Copied, body-roomy, left-roomy, right-roomy}
 use Rattle.substitution.proofs.Copying.{abstraction-asks, new-abstraction, application-asks, new-application}

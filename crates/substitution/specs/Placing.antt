@@ -6,7 +6,7 @@ use Rattle.calculus.specs.Term.{Term, nodes, height, greatest-index}
 use Rattle.calculus.specs.Bounds.{most-nodes, greatest-number}
 use Rattle.calculus.specs.Substitution.{put}
 use Rattle.nodes.specs.Store.{Holds, Same}
-use Rattle.substitution.specs.declared.Made.{Made}
+use Rattle.substitution.specs.Raising.{Made}
 
 -- both nodes are terms, and what the one becomes has room and is within what a node can tell
 pub record Placeable (room : List ℕ) (used node depth argument : ℕ) : Type 0 where

@@ -9,11 +9,18 @@ use Rattle.calculus.specs.Bounds.{most-nodes, greatest-number}
 use Rattle.calculus.specs.Substitution.{raise}
 use Rattle.nodes.specs.Packing.{free-in}
 use Rattle.nodes.specs.Store.{Holds, Same}
-use Rattle.substitution.specs.declared.Made.{Made}
 
 -- a first number once free indices are raised: the bound on them, and nothing else, moves, to 1023 at most
 abbrev pub lifted : (w amount : ℕ) → ℕ
 lifted w amount = w + 1073741824 * cond (ltb (free-in w + amount) 1023) amount (1023 - free-in w)
+
+-- the node that a term is, and the number of the next node
+pub record Made : Type 0 where
+  pub node : ℕ
+  pub used : ℕ
+
+abbrev pub made : (node used : ℕ) → Made
+made node used = record { node = node; used = used }
 
 -- the node is some term that has room to be copied, and none of its indices is raised past the greatest number
 pub record Raisable (room : List ℕ) (used node amount depth : ℕ) : Type 0 where

@@ -6,7 +6,9 @@ use Rattle.reduction.proofs.contract.Statement.{statement}
 use Rattle.reduction.proofs.contract.Tie as tie
 
 weigh-requires : tie.Need-weigh-requires
-weigh-requires c κs = weigh-asks (c .before .before .before .pre)
+weigh-requires c κs =
+    let start = c .before .before .before in
+    weigh-asks (start .pre)
 
 returns : tie.Need-returns
 returns c =
@@ -31,7 +33,7 @@ returns-3 c =
 
 put-in-requires : tie.Need-put-in-requires
 put-in-requires c κs =
-    let at-if3 = c .before in
+    let at-if3 = c .before .before in
     let at-if2 = at-if3 .before .before in
     let at-if1 = at-if2 .before .before in
     let at-weigh = at-if1 .before in
@@ -41,7 +43,7 @@ put-in-requires c κs =
 save-requires : tie.Need-save-requires
 save-requires c κs =
     let at-put-in = c .before .before .before .before in
-    let at-if3 = at-put-in .before .before in
+    let at-if3 = at-put-in .before .before .before in
     let at-if2 = at-if3 .before .before in
     let at-if1 = at-if2 .before .before in
     let at-weigh = at-if1 .before in
@@ -53,7 +55,7 @@ returns-4 : tie.Need-returns-4
 returns-4 c =
     let at-save = c .before .before in
     let at-put-in = at-save .before .before .before .before .before in
-    let at-if3 = at-put-in .before .before in
+    let at-if3 = at-put-in .before .before .before in
     let at-if2 = at-if3 .before .before in
     let at-if1 = at-if2 .before .before in
     let at-weigh = at-if1 .before in
@@ -62,6 +64,8 @@ returns-4 c =
     (at-put-in .put-in .ensures) (at-save .save .ensures)
 
 pub contract-spec : {M : Type 1} → statement M
-contract-spec = tie.close (tie.spec
+contract-spec =
+    tie.close
+    (tie.spec
     weigh-requires (λ c. search needs) returns (λ c. search needs) returns-2 (λ c. search needs) returns-3
     put-in-requires save-requires (λ c. search needs) (λ c. search needs) returns-4)

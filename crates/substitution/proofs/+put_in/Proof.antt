@@ -23,14 +23,14 @@ use Rattle.substitution.proofs.+put_in.{statement}
 use Rattle.substitution.proofs.+put_in.Tie.{close}
 
 -- the measure; what the function is given at the measure t, and what a call of it asks below t
-abbrev μ : Measures 1 kinds.ps ℕ
+abbrev μ : Measures 2 kinds.ps ℕ
 μ κs a = a .1 .1 .0
 
-abbrev given : ℕ → In 1 kinds.ps
-given t = and 1 kinds.ps (is 1 kinds.ps μ t) own.Pre
+abbrev given : ℕ → In 2 kinds.ps
+given t = and 2 kinds.ps (is 2 kinds.ps μ t) own.Pre
 
-abbrev below : ℕ → In 1 kinds.ps
-below t = and 1 kinds.ps (falls 1 kinds.ps _<_ μ t) own.Pre
+abbrev below : ℕ → In 2 kinds.ps
+below t = and 2 kinds.ps (falls 2 kinds.ps _<_ μ t) own.Pre
 
 abbrev claims : ℕ → lts.Claims
 claims t = (
@@ -69,7 +69,7 @@ module _ (t : ℕ) where
 
   raise-requires : lts.Need-raise-requires (claims t) (given t) own.Post
   raise-requires c κs =
-      let at-if4 = c .before in
+      let at-if4 = c .before .before in
       let at-if2 = at-if4 .before .before in
       let at-kind-of = at-if2 .before in
       let start = at-kind-of .before .before .before .before .before .before in
@@ -78,7 +78,7 @@ module _ (t : ℕ) where
   returns-3 : lts.Need-returns-3 (claims t) (given t) own.Post
   returns-3 c =
       let at-raise = c .before .before in
-      let at-if4 = at-raise .before .before in
+      let at-if4 = at-raise .before .before .before in
       let at-if2 = at-if4 .before .before in
       let at-kind-of = at-if2 .before in
       let start = at-kind-of .before .before .before .before .before .before in
@@ -87,7 +87,7 @@ module _ (t : ℕ) where
 
   make-variable-requires : lts.Need-make-variable-requires (claims t) (given t) own.Post
   make-variable-requires c κs =
-      let at-if2 = c .before .before .before in
+      let at-if2 = c .before .before .before .before in
       let at-kind-of = at-if2 .before in
       let start = at-kind-of .before .before .before .before .before .before in
       variable-asks (start .pre .1) (at-kind-of .kind-of .ensures) (at-if2 .if2 .taken)
@@ -95,7 +95,7 @@ module _ (t : ℕ) where
   returns-4 : lts.Need-returns-4 (claims t) (given t) own.Post
   returns-4 c =
       let at-make-variable = c .before .before in
-      let at-if4 = at-make-variable .before .before in
+      let at-if4 = at-make-variable .before .before .before in
       let at-if3 = at-if4 .before in
       let at-if2 = at-if3 .before in
       let at-kind-of = at-if2 .before in
@@ -106,7 +106,7 @@ module _ (t : ℕ) where
 
   put-in-requires : lts.Need-put-in-requires (claims t) (given t) own.Post
   put-in-requires c κs =
-      let at-if5 = c .before in
+      let at-if5 = c .before .before in
       let at-kind-of = at-if5 .before .before in
       let start = at-kind-of .before .before .before .before .before .before in
       let (falls, asks) = body-asks (start .pre .1) (at-kind-of .kind-of .ensures) (at-if5 .if5 .taken) in
@@ -114,8 +114,8 @@ module _ (t : ℕ) where
 
   make-abstraction-requires : lts.Need-make-abstraction-requires (claims t) (given t) own.Post
   make-abstraction-requires c κs =
-      let at-put-in = c .before .before .before in
-      let at-if5 = at-put-in .before .before in
+      let at-put-in = c .before .before .before .before in
+      let at-if5 = at-put-in .before .before .before in
       let at-kind-of = at-if5 .before .before in
       let start = at-kind-of .before .before .before .before .before .before in
       abstraction-asks (start .pre .1) (at-kind-of .kind-of .ensures) (at-if5 .if5 .taken)
@@ -124,8 +124,8 @@ module _ (t : ℕ) where
   returns-5 : lts.Need-returns-5 (claims t) (given t) own.Post
   returns-5 c =
       let at-make-abstraction = c .before .before in
-      let at-put-in = at-make-abstraction .before .before .before .before in
-      let at-if5 = at-put-in .before .before in
+      let at-put-in = at-make-abstraction .before .before .before .before .before in
+      let at-if5 = at-put-in .before .before .before in
       let at-kind-of = at-if5 .before .before in
       let start = at-kind-of .before .before .before .before .before .before in
       let (next, same, new) = at-make-abstraction .make-abstraction .ensures in
@@ -134,7 +134,7 @@ module _ (t : ℕ) where
 
   put-in-requires-2 : lts.Need-put-in-requires-2 (claims t) (given t) own.Post
   put-in-requires-2 c κs =
-      let at-if5 = c .before .before in
+      let at-if5 = c .before .before .before in
       let at-if2 = at-if5 .before in
       let at-kind-of = at-if2 .before in
       let start = at-kind-of .before .before .before .before .before .before in
@@ -144,9 +144,9 @@ module _ (t : ℕ) where
 
   put-in-requires-3 : lts.Need-put-in-requires-3 (claims t) (given t) own.Post
   put-in-requires-3 c κs =
-      let at-put-in2 = c .before .before .before .before in
+      let at-put-in2 = c .before .before .before .before .before in
       let at-left-of = at-put-in2 .before in
-      let at-if5 = at-left-of .before .before in
+      let at-if5 = at-left-of .before .before .before in
       let at-if2 = at-if5 .before in
       let at-kind-of = at-if2 .before in
       let start = at-kind-of .before .before .before .before .before .before in
@@ -156,11 +156,11 @@ module _ (t : ℕ) where
 
   make-application-requires : lts.Need-make-application-requires (claims t) (given t) own.Post
   make-application-requires c κs =
-      let at-put-in3 = c .before .before .before in
+      let at-put-in3 = c .before .before .before .before in
       let at-right-of = at-put-in3 .before in
-      let at-put-in2 = at-right-of .before .before .before .before in
+      let at-put-in2 = at-right-of .before .before .before .before .before in
       let at-left-of = at-put-in2 .before in
-      let at-if5 = at-left-of .before .before in
+      let at-if5 = at-left-of .before .before .before in
       let at-if2 = at-if5 .before in
       let at-kind-of = at-if2 .before in
       let start = at-kind-of .before .before .before .before .before .before in
@@ -171,11 +171,11 @@ module _ (t : ℕ) where
   returns-6 : lts.Need-returns-6 (claims t) (given t) own.Post
   returns-6 c =
       let at-make-application = c .before .before in
-      let at-put-in3 = at-make-application .before .before .before .before in
+      let at-put-in3 = at-make-application .before .before .before .before .before in
       let at-right-of = at-put-in3 .before in
-      let at-put-in2 = at-right-of .before .before .before .before in
+      let at-put-in2 = at-right-of .before .before .before .before .before in
       let at-left-of = at-put-in2 .before in
-      let at-if5 = at-left-of .before .before in
+      let at-if5 = at-left-of .before .before .before in
       let at-if2 = at-if5 .before in
       let at-kind-of = at-if2 .before in
       let start = at-kind-of .before .before .before .before .before .before in
