@@ -21,6 +21,10 @@ use Rattle.nodes.specs.Lending.{Lent}
 use Rattle.nodes.specs.declared.lending.Granted.{Granted}
 use Rattle.nodes.specs.declared.lending.Granted.the-variants.{Cap, Refused}
 
+-- what is lent may be lent on, whatever stands in the store by then
+pub lent-on : {cap : ℕ} {out store mid : List ℕ} → Lent cap out store → length mid ≡ length store → Lent cap out mid
+lent-on known long = record { in-bounds = known .in-bounds; output = known .output; room = long ∙ known .room }
+
 -- THE CODE'S TESTS
 module _ (cap output room : ℕ) where
   pub cap-zero : cap < 1 → granted-told (Refused OutsideBounds) ≡ granting cap output room

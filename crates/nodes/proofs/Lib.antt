@@ -5,6 +5,7 @@ pub mod Making
 pub mod Parts
 pub mod Holding
 pub mod Loading
+pub mod Taking
 pub mod Coding
 pub mod Saving
 pub mod Granting

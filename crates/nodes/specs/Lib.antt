@@ -2,6 +2,7 @@
 pub mod Packing
 pub mod Store
 pub mod Coded
+pub mod Reading
 pub mod Answers
 pub mod Lending
 pub mod Working

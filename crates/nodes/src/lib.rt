@@ -1,5 +1,6 @@
 // Numbered nodes in lent room, two numbers each: how they are made, loaded from coded bytes, saved to them and cleared.
 pub mod lending;
+pub mod reading;
 pub mod runs;
 
 use calculus::ROOM_PER_NODE;

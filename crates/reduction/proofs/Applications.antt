@@ -25,7 +25,7 @@ use Rattle.nodes.specs.Lending.{Lent}
 use Rattle.nodes.specs.declared.Loaded.{Loaded}
 use Rattle.nodes.specs.declared.lending.Granted.{Granted}
 use Rattle.nodes.specs.declared.lending.Granted.the-variants as granted
-use Rattle.nodes.proofs.Granting.{not-granted, Passed, answered}
+use Rattle.nodes.proofs.Granting.{lent-on, not-granted, Passed, answered}
 use Rattle.nodes.proofs.Keeping.{holds-kept}
 use Rattle.nodes.proofs.Loading as loading
 use Rattle.reduction.specs.Answers.{applied-told}
@@ -64,7 +64,7 @@ module _ (cap : ℕ) (s u : List ℕ) {out store : List ℕ} where
 
     module _ (second : Admitted cap u) where
       -- 11
-      no-body : {t : Term} → first .term ≡ t → body-of t ≡ refused not-abs
+      pub no-body : {t : Term} → first .term ≡ t → body-of t ≡ refused not-abs
           → Works (applied cap s u) out store (Refused NotAbs) out store
       unfolding applied
       no-body is e = refuses-there NotAbs out store (rw (first .passes, second .passes, is, e))
@@ -118,11 +118,7 @@ module _ (cap : ℕ) (s u : List ℕ) {out store : List ℕ} where
                 let grown = some-argument in
                 let begun = some-body in
                 record {
-                  lent = record {
-                    in-bounds = lent .in-bounds;
-                    output = lent .output;
-                    room = more .same .as-long ∙ loads .same .as-long ∙ lent .room;
-                  };
+                  lent = lent-on lent (more .same .as-long ∙ loads .same .as-long);
                   body-term = v .body;
                   put-term = second .term;
                   holds = body-kept (v .body) (v .body-at);

@@ -23,14 +23,13 @@ use Rattle.calculus.proofs.Running.{ends-run}
 use Rattle.calculus.proofs.Sizes.{nine-per-node}
 use Rattle.calculus.proofs.Tests.{and-false, and-true}
 use Rattle.term.specs.Answers.{refusal-of}
-use Rattle.term.specs.Surveys.{Admitted}
 use Rattle.term.specs.declared.Refusal.{Refusal}
 use Rattle.term.specs.declared.Refusal.the-variants.{OutsideBounds}
 use Rattle.nodes.specs.Answers.{granted-told, granting, run-told}
-use Rattle.nodes.specs.Coded.{Loads, Savable, Saves}
+use Rattle.nodes.specs.Coded.{Savable, Saves}
 use Rattle.nodes.specs.Lending.{Lent}
+use Rattle.nodes.specs.Reading.{Taken}
 use Rattle.nodes.specs.Working.{Works}
-use Rattle.nodes.specs.declared.Loaded.{Loaded}
 use Rattle.nodes.specs.declared.lending.Granted.{Granted}
 use Rattle.nodes.specs.declared.lending.Granted.the-variants as granted
 use Rattle.nodes.specs.declared.runs.Run.{Run}
@@ -56,82 +55,94 @@ module _ {o : Order} {t : Term} {limit cap n : ℕ} {store : List ℕ} where
       → Ends (judge cap) o limit t (refused-after n (refusal-of why))
   refused-at (engine.refuses ends) = ends
 
--- THE STEPS of a whole input, once it is loaded
-module _ {cap : ℕ} {s out store : List ℕ} (lent : Lent cap out store) (input : Admitted cap s)
-    {read : Loaded} {mid : List ℕ} (loads : Loads s 0 store 0 read mid) where
-  pub steps-ask : Steppable (input .term) cap mid (read .used)
-  steps-ask =
-      let (_, low, few) = checked-given s (input .passes) in
-      let made = loads .made (input .term) (input .stands) in
+-- THE STEPS of a term that is the last of so many nodes
+module _ {cap used : ℕ} {out store : List ℕ} (lent : Lent cap out store) {t : Term} (asked : Steppable t cap store used)
+    {o : Order} {limit : ℕ} {reached : Reached} {end : List ℕ}
+    (steps : (t : Term) → Steppable t cap store used → Steps o t limit cap store reached end) where
+  stepped : Steps o t limit cap store reached end
+  stepped = steps t asked
+
+  -- a term that is reached is saved
+  module _ {u : Term} {node : ℕ} (found : Found u cap node end) where
+    save-asks : Savable end node out 0
+    save-asks = record {
+      term = u;
+      holds = found .holds;
+      inside = found .inside;
+      fits = omega (arith, nine-per-node u, found .few, lent .output);
+    }
+
+    saved : {to : ℕ} {after : List ℕ} → Saves end node out 0 to after → (ends : ℕ → calculus.Run ℕ)
+        → _≡_ {A = calculus.Run ℕ × List ℕ} (ends to, after)
+        (ends (length (encode u)), laid-over (encode u) out)
+    saved saves = ends-stored cap u (found .few) (lent .output) (saves .saved u (found .holds))
+
+  module _ {n node : ℕ} where
+    module _ (is : reached ≡ Finished n node) where
+      finish : (u : Term) × Ends (judge cap) o limit t (finished n u) × Found u cap node end
+      finish = finished-at (rw is at (stepped .reaches))
+
+      pub finished-asks : Savable end node out 0
+      finished-asks = save-asks (finish .2)
+
+      pub at-finished : {to : ℕ} {after : List ℕ} → Saves end node out 0 to after
+          → Works (calculus.run (judge cap) o limit t) out store (run.Finished n to) after end
+      unfolding run-told
+      at-finished saves =
+          let (u, ends, found) = finish in
+          record {
+            stores = rw (ends-run (judge cap) o ends) (saved found saves (finished n));
+            as-long = stepped .as-long;
+          }
+
+    module _ (is : reached ≡ Unfinished n node) where
+      leave : (u : Term) × Ends (judge cap) o limit t (unfinished n u) × Found u cap node end
+      leave = unfinished-at (rw is at (stepped .reaches))
+
+      pub unfinished-asks : Savable end node out 0
+      unfinished-asks = save-asks (leave .2)
+
+      pub at-unfinished : {to : ℕ} {after : List ℕ} → Saves end node out 0 to after
+          → Works (calculus.run (judge cap) o limit t) out store (run.Unfinished n to) after end
+      unfolding run-told
+      at-unfinished saves =
+          let (u, ends, found) = leave in
+          record {
+            stores = rw (ends-run (judge cap) o ends) (saved found saves (unfinished n));
+            as-long = stepped .as-long;
+          }
+
+  pub at-refused : {n : ℕ} {why : Refusal} → reached ≡ Refused n why
+      → Works (calculus.run (judge cap) o limit t) out store (run.Refused n why) out end
+  unfolding run-told
+  at-refused is = record {
+    stores = rw (ends-run (judge cap) o (refused-at (rw is at (stepped .reaches))));
+    as-long = stepped .as-long;
+  }
+
+-- THE INPUT is the last node, and its steps are those of the whole call
+module _ {cap used : ℕ} {s out store mid : List ℕ} (lent : Lent cap out store) (long : length mid ≡ length store)
+    (taken : Taken cap s 0 used mid) where
+  pub taken-steps : Steppable (taken .input .term) cap mid used
+  taken-steps =
+      let (_, low, few) = checked-given s (taken .input .passes) in
+      let count = taken .count in
       record {
         in-bounds = lent .in-bounds;
-        room = loads .same .as-long ∙ lent .room;
-        holds = loads .loaded (input .term) (input .stands);
+        room = long ∙ lent .room;
+        holds = taken .holds;
         used-are = omega arith;
         few = omega arith;
         low = low;
       }
 
-  module _ {o : Order} {limit : ℕ} {reached : Reached} {end : List ℕ}
-      (steps : (t : Term) → Steppable t cap mid (read .used) → Steps o t limit cap mid reached end) where
-    stepped : Steps o (input .term) limit cap mid reached end
-    stepped = steps (input .term) steps-ask
-
-    as-long : length end ≡ length store
-    as-long = stepped .as-long ∙ loads .same .as-long
-
-    runs : {r : calculus.Run Term} → Ends (judge cap) o limit (input .term) r → reduced o limit cap s ≡ r
-    unfolding reduced
-    runs ends = rw (input .passes) (ends-run (judge cap) o ends)
-
-    -- a term that is reached is saved
-    module _ {u : Term} {node : ℕ} (found : Found u cap node end) where
-      save-asks : Savable end node out 0
-      save-asks = record {
-        term = u;
-        holds = found .holds;
-        inside = found .inside;
-        fits = omega (arith, nine-per-node u, found .few, lent .output);
-      }
-
-      saved : {to : ℕ} {after : List ℕ} → Saves end node out 0 to after → (ends : ℕ → calculus.Run ℕ)
-          → _≡_ {A = calculus.Run ℕ × List ℕ} (ends to, after)
-          (ends (length (encode u)), laid-over (encode u) out)
-      saved saves = ends-stored cap u (found .few) (lent .output) (saves .saved u (found .holds))
-
-    module _ {n node : ℕ} where
-      module _ (is : reached ≡ Finished n node) where
-        finish : (u : Term) × Ends (judge cap) o limit (input .term) (finished n u) × Found u cap node end
-        finish = finished-at (rw is at (stepped .reaches))
-
-        pub finished-asks : Savable end node out 0
-        finished-asks = save-asks (finish .2)
-
-        pub at-finished : {to : ℕ} {after : List ℕ} → Saves end node out 0 to after
-            → Works (reduced o limit cap s) out store (run.Finished n to) after end
-        unfolding run-told
-        at-finished saves =
-            let (u, ends, found) = finish in
-            record { stores = rw (runs ends) (saved found saves (finished n)); as-long = as-long }
-
-      module _ (is : reached ≡ Unfinished n node) where
-        leave : (u : Term) × Ends (judge cap) o limit (input .term) (unfinished n u) × Found u cap node end
-        leave = unfinished-at (rw is at (stepped .reaches))
-
-        pub unfinished-asks : Savable end node out 0
-        unfinished-asks = save-asks (leave .2)
-
-        pub at-unfinished : {to : ℕ} {after : List ℕ} → Saves end node out 0 to after
-            → Works (reduced o limit cap s) out store (run.Unfinished n to) after end
-        unfolding run-told
-        at-unfinished saves =
-            let (u, ends, found) = leave in
-            record { stores = rw (runs ends) (saved found saves (unfinished n)); as-long = as-long }
-
-    pub at-refused : {n : ℕ} {why : Refusal} → reached ≡ Refused n why
-        → Works (reduced o limit cap s) out store (run.Refused n why) out end
-    unfolding run-told
-    at-refused is = record { stores = rw (runs (refused-at (rw is at (stepped .reaches)))); as-long = as-long }
+  pub taken-reduced : (o : Order) (limit : ℕ) {r : Run} {after end : List ℕ}
+      → ((t : Term) → Steppable t cap mid used → Works (calculus.run (judge cap) o limit t) out mid r after end)
+      → Works (reduced o limit cap s) out store r after end
+  unfolding reduced
+  taken-reduced o limit works =
+      let done = works (taken .input .term) taken-steps in
+      rw (taken .input .passes) (record { stores = done .stores; as-long = done .as-long ∙ long })
 
 -- THE INPUT'S REFUSAL takes the place of all steps
 pub input-stops : (o : Order) (limit cap : ℕ) (s : List ℕ) {out store : List ℕ} {why : Refusal}

@@ -3,8 +3,10 @@ pub mod reducing;
 
 use calculus::MOST_HEIGHT;
 use calculus::ROOM_PER_NODE;
+use nodes::kind_of;
 use nodes::lending::Granted;
 use nodes::lending::grant;
+use nodes::reading::read_whole;
 use substitution::put_in;
 use substitution::weighing::weigh;
 use term::Checked;
@@ -72,8 +74,8 @@ fn contract_whole(cap: usize, s: &[u8], u: &[u8], out: &mut [u8], store: &mut [u
     }
 }
 
-// All that comes after 1 and 2: the abstraction's input, the argument's, then the rest.
-fn work(cap: usize, s: &[u8], u: &[u8], out: &mut [u8], store: &mut [u64]) -> Applied
+// The abstraction's refusals, the argument's, then the rest.
+fn check_first(cap: usize, s: &[u8], u: &[u8], out: &mut [u8], store: &mut [u64]) -> Applied
     requires { ⌜ Lent cap (now out) (now store) ⌝ }
     ensures { λ r. ⌜ Works (applied cap (now (s .entry)) (now (u .entry)))
         (now (out .entry)) (now (store .entry)) r (now (out .exit)) (now (store .exit)) ⌝ }
@@ -85,6 +87,28 @@ fn work(cap: usize, s: &[u8], u: &[u8], out: &mut [u8], store: &mut [u64]) -> Ap
             Checked::Whole(_) => contract_whole(cap, s, u, out, store),
         },
     }
+}
+
+// All that comes after 1 and 2. Inputs that are read at once need no check.
+fn work(cap: usize, s: &[u8], u: &[u8], out: &mut [u8], store: &mut [u64]) -> Applied
+    requires { ⌜ Lent cap (now out) (now store) ⌝ }
+    ensures { λ r. ⌜ Works (applied cap (now (s .entry)) (now (u .entry)))
+        (now (out .entry)) (now (store .entry)) r (now (out .exit)) (now (store .exit)) ⌝ }
+{
+    let top = read_whole(cap, s, store, 0);
+    if top == 0 {
+        return check_first(cap, s, u, out, store);
+    }
+    let used = read_whole(cap, u, store, top);
+    if used == 0 {
+        return check_first(cap, s, u, out, store);
+    }
+    let root = top - 1;
+    if kind_of(store[2 * root]) == 2 {
+        let body = store[2 * root + 1] as usize;
+        return contract(cap, store, used, body, used - 1, out);
+    }
+    Applied::Refused(Refusal::NotAbs)
 }
 
 // 1, 2, then the work, after which the room is cleared.

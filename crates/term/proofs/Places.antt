@@ -33,7 +33,7 @@ head-at {t = t} st = ap head-in (st .bytes) ∙ head-of-encoded t (st .rest)
 
 -- THE PARTS
 -- an offset within the bytes at `at`
-drop-more : (s : List ℕ) (at n : ℕ) {l : List ℕ} → drop at s ≡ l → drop (at + n) s ≡ drop n l
+pub drop-more : (s : List ℕ) (at n : ℕ) {l : List ℕ} → drop at s ≡ l → drop (at + n) s ≡ drop n l
 drop-more s at n e = sym (drop-drop n at s) ∙ ap (drop n) e
 
 body-stands : {s : List ℕ} {at : ℕ} {b : Term} → Stands s at (lam b) → Stands s (at + 1) b

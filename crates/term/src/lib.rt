@@ -73,7 +73,7 @@ fn wide(b: u8) -> u64
 }
 
 // The eight bytes at an offset as a number, low byte first.
-fn index_at(s: &[u8], at: usize) -> u64
+pub fn index_at(s: &[u8], at: usize) -> u64
     requires { ⌜ at + 8 ≤ length (now s) ⌝ }
     ensures { λ r. ⌜ r ≡ from-digits 256 (take 8 (drop at (now (s .entry)))) ⌝ }
 {

@@ -1,73 +1,50 @@
--- `reduction::reducing::step_on` meets its contract: the term is loaded, and what its steps reach is saved.
-use mathlib.Core.Path.{refl}
-use native.Mathlib.Omega.{arith}
-use Rattle.reduction.proofs.Applications.{input-asks}
-use Rattle.reduction.proofs.Reductions.{steps-ask, finished-asks, at-finished, unfinished-asks, at-unfinished}
-use Rattle.reduction.proofs.Reductions.{at-refused}
+-- `reduction::reducing::step_on` meets its contract: what the steps reach is saved.
+use Rattle.reduction.proofs.Reductions.{finished-asks, at-finished, unfinished-asks, at-unfinished, at-refused}
 use borrow.Author.Needs.{needs}
 use Rattle.reduction.proofs.reducing.step_on.Statement.{statement}
 use Rattle.reduction.proofs.reducing.step_on.Tie as tie
-
-load-requires : tie.Need-load-requires
-load-requires c κs =
-    let start = c .before .before .before .before in
-    input-asks (start .pre .0) (start .pre .1) refl (omega arith)
-
-steps-requires : tie.Need-steps-requires
-steps-requires c κs =
-    let at-load = c .before .before .before in
-    let start = at-load .before .before .before .before .before in
-    (_, steps-ask (start .pre .0) (start .pre .1) (at-load .load .ensures))
 
 save-requires : tie.Need-save-requires
 save-requires c κs =
     let at-reached = c .before .before .before in
     let at-steps = at-reached .before .before .before .before in
-    let at-load = at-steps .before .before .before .before in
-    let start = at-load .before .before .before .before .before in
-    finished-asks (start .pre .0) (start .pre .1) (at-load .load .ensures) (at-steps .steps .ensures)
-    (at-reached .steps2 .given .1)
+    let start = at-steps .before .before .before .before in
+    finished-asks (start .pre .0) (start .pre .1 .1) (at-steps .steps .ensures) (at-reached .steps2 .given .1)
 
 save-requires-2 : tie.Need-save-requires-2
 save-requires-2 c κs =
     let at-reached = c .before .before .before in
     let at-steps = at-reached .before .before .before .before in
-    let at-load = at-steps .before .before .before .before in
-    let start = at-load .before .before .before .before .before in
-    unfinished-asks (start .pre .0) (start .pre .1) (at-load .load .ensures) (at-steps .steps .ensures)
-    (at-reached .steps3 .given .1)
+    let start = at-steps .before .before .before .before in
+    unfinished-asks (start .pre .0) (start .pre .1 .1) (at-steps .steps .ensures) (at-reached .steps3 .given .1)
 
 returns : tie.Need-returns
-returns c =
+returns c t asked =
     let at-save = c .before .before in
     let at-reached = at-save .before .before .before .before in
     let at-steps = at-reached .before .before .before .before in
-    let at-load = at-steps .before .before .before .before in
-    let start = at-load .before .before .before .before .before in
-    at-finished (start .pre .0) (start .pre .1) (at-load .load .ensures) (at-steps .steps .ensures)
-    (at-reached .steps2 .given .1) (at-save .save .ensures)
+    let start = at-steps .before .before .before .before in
+    at-finished (start .pre .0) asked (at-steps .steps .ensures) (at-reached .steps2 .given .1)
+    (at-save .save .ensures)
 
 returns-2 : tie.Need-returns-2
-returns-2 c =
+returns-2 c t asked =
     let at-save2 = c .before .before in
     let at-reached = at-save2 .before .before .before .before in
     let at-steps = at-reached .before .before .before .before in
-    let at-load = at-steps .before .before .before .before in
-    let start = at-load .before .before .before .before .before in
-    at-unfinished (start .pre .0) (start .pre .1) (at-load .load .ensures) (at-steps .steps .ensures)
-    (at-reached .steps3 .given .1) (at-save2 .save2 .ensures)
+    let start = at-steps .before .before .before .before in
+    at-unfinished (start .pre .0) asked (at-steps .steps .ensures) (at-reached .steps3 .given .1)
+    (at-save2 .save2 .ensures)
 
 returns-3 : tie.Need-returns-3
-returns-3 c =
+returns-3 c t asked =
     let at-reached = c .before in
     let at-steps = at-reached .before .before .before .before in
-    let at-load = at-steps .before .before .before .before in
-    let start = at-load .before .before .before .before .before in
-    at-refused (start .pre .0) (start .pre .1) (at-load .load .ensures) (at-steps .steps .ensures)
-    (at-reached .steps4 .given .1)
+    let start = at-steps .before .before .before .before in
+    at-refused (start .pre .0) asked (at-steps .steps .ensures) (at-reached .steps4 .given .1)
 
 pub step-on-spec : {M : Type 1} → statement M
 step-on-spec = tie.close (tie.spec
-    load-requires steps-requires (λ c. search needs) save-requires (λ c. search needs) save-requires-2
-    (λ c. search needs) (λ c. search needs) (λ c. search needs) returns (λ c. search needs) (λ c. search needs)
-    returns-2 (λ c. search needs) returns-3)
+    (λ c κs. search needs) (λ c. search needs) save-requires (λ c. search needs) save-requires-2 (λ c. search needs)
+    (λ c. search needs) (λ c. search needs) returns (λ c. search needs) (λ c. search needs) returns-2
+    (λ c. search needs) returns-3)
