@@ -1,34 +1,52 @@
-// A line's words, with one space between two: which of some names a word is, and which number.
-use calculus::GREATEST_NUMBER;
-ghost use Prim.Native.Nat.{_≤_};
+// For the programs that read cases: the words of a line; in its modules what a line unfolds to, and the terms it has.
+pub mod terms;
+pub mod unfolding;
 
-fn one_if_space(b: u8) -> usize
-    ensures { λ r. ⌜ r ≤ 1 ⌝ }
-{
-    if b == b' ' { 1 } else { 0 }
+use calculus::GREATEST_NUMBER;
+
+// Writes a byte and moves on; at the end of the buffer it does neither.
+pub fn put(buf: &mut [u8], at: usize, b: u8) -> usize {
+    if at < buf.len() {
+        buf[at] = b;
+        at + 1
+    } else {
+        at
+    }
 }
 
-// How many spaces a line has: one less than its words.
-pub fn spaces(line: &[u8]) -> usize {
-    let mut count: usize = 0;
-    let mut at: usize = 0;
-    while at < line.len() {
-        count += one_if_space(line[at]);
+// The bytes of a buffer between two places, or none where there are no such places.
+pub fn part(buf: &[u8], from: usize, to: usize) -> &[u8] {
+    if buf.len() < to {
+        return &buf[..0];
+    }
+    if to < from {
+        return &buf[..0];
+    }
+    &buf[from..to]
+}
+
+// Where the word that begins at a place ends: at a mark, or with the bytes.
+pub fn word_end(words: &[u8], from: usize, mark: u8) -> usize {
+    let mut at = from;
+    while at < words.len() {
+        if words[at] == mark {
+            return at;
+        }
         at += 1;
     }
-    count
+    at
 }
 
-// The place behind the space that ends a word, or the line's end.
-pub fn past(line: &[u8], end: usize) -> usize {
-    if end < line.len() { end + 1 } else { end }
+// The place behind the mark that ends a word, or the end of the bytes.
+pub fn past(words: &[u8], end: usize) -> usize {
+    if end < words.len() { end + 1 } else { end }
 }
 
 // The place behind so many spaces, or the line's end.
-fn place(line: &[u8], spaces: usize) -> usize {
+pub fn place(line: &[u8], spaces: usize) -> usize {
     let mut at: usize = 0;
     for _ in 0..spaces {
-        at = past(line, samples::word_end(line, at, b' '));
+        at = past(line, word_end(line, at, b' '));
     }
     at
 }
@@ -36,12 +54,7 @@ fn place(line: &[u8], spaces: usize) -> usize {
 // The word behind so many spaces, or none.
 pub fn word(line: &[u8], spaces: usize) -> &[u8] {
     let from = place(line, spaces);
-    samples::part(line, from, samples::word_end(line, from, b' '))
-}
-
-// All that stands behind so many spaces.
-pub fn rest(line: &[u8], spaces: usize) -> &[u8] {
-    samples::part(line, place(line, spaces), line.len())
+    part(line, from, word_end(line, from, b' '))
 }
 
 // Which of the names, themselves a line's words, a word is, from 0 on; for any other a number that no name has.
@@ -54,37 +67,56 @@ pub fn which(names: &[u8], name: &[u8]) -> usize {
     names.len()
 }
 
-// What a word says as a number.
-pub enum Number {
-    Given(u64),
-    Nothing,
-}
-
-// A digit's value; 10 for any other byte.
-fn digit(b: u8) -> u64 {
+// A hex digit's value; 16 for any other byte.
+pub fn digit(b: u8) -> u64 {
     if b < b'0' {
-        return 10;
+        return 16;
     }
-    if b <= b'9' { (b - b'0') as u64 } else { 10 }
+    if b <= b'9' {
+        return (b - b'0') as u64;
+    }
+    if b < b'a' {
+        return 16;
+    }
+    if b <= b'f' {
+        (b - b'a' + 10) as u64
+    } else {
+        16
+    }
 }
 
-// The 64-bit number that a word of digits says.
-pub fn decimal(digits: &[u8]) -> Number {
-    if digits.len() == 0 {
-        return Number::Nothing;
-    }
+// The number that a word's digits say; 0 for a word that says no 64-bit number.
+pub fn decimal(digits: &[u8]) -> u64 {
     let mut value: u64 = 0;
     let mut at: usize = 0;
     while at < digits.len() {
         let last = digit(digits[at]);
         if 9 < last {
-            return Number::Nothing;
+            return 0;
         }
         if (GREATEST_NUMBER - last) / 10 < value {
-            return Number::Nothing;
+            return 0;
         }
         value = value * 10 + last;
         at += 1;
     }
-    Number::Given(value)
+    value
+}
+
+// The same of hex digits.
+pub fn hex(digits: &[u8]) -> u64 {
+    let mut value: u64 = 0;
+    let mut at: usize = 0;
+    while at < digits.len() {
+        let last = digit(digits[at]);
+        if 15 < last {
+            return 0;
+        }
+        if (GREATEST_NUMBER - last) / 16 < value {
+            return 0;
+        }
+        value = value * 16 + last;
+        at += 1;
+    }
+    value
 }

@@ -16,8 +16,8 @@ fn show_answers(input: &[u8]) {
         if input.len() <= at {
             return;
         }
-        let end = samples::word_end(input, at, b'~');
-        show_answer(samples::part(input, at, end));
+        let end = lines::word_end(input, at, b'~');
+        show_answer(lines::part(input, at, end));
         if input.len() <= end {
             return;
         }
@@ -29,7 +29,7 @@ fn show_answers(input: &[u8]) {
 }
 
 fn main() {
-    let mut input = [0u8; 262144];
+    let mut input = io::large_buffer();
     let length = io::read_full(STDIN_FILENO, &mut input);
     show_answers(&input[..length]);
 }

@@ -1,74 +1,103 @@
-// The text of an answer, put into a buffer; each function returns the place behind it.
-use crate::terms;
+// The words of an answer: its six numbers, and what stands first in the output.
+use crate::asking::PRINT;
 use copperjangle::Answer;
-use samples::copy;
+use libc::STDOUT_FILENO;
+use term::Head;
+ghost use Prim.Native.Nat.{_≤_};
 
-// Words and a number, from a place on.
-fn tell(text: &mut [u8], at: usize, words: &[u8], n: u64) -> usize {
-    let mut digits = [0u8; 20];
-    let count = io::decimal(n, &mut digits);
-    let to = copy(text, at, words);
-    copy(text, to, &digits[..count])
+pub(crate) fn say(words: &[u8]) {
+    io::write_all(STDOUT_FILENO, words);
 }
 
-pub(crate) fn tell_no_question(text: &mut [u8]) -> usize {
-    copy(text, 0, b"no question")
+fn tell_number(words: &[u8], n: u64) {
+    say(words);
+    io::print_decimal(STDOUT_FILENO, n);
 }
 
-// A refusal, with what it returns.
-pub(crate) fn tell_refusal(answer: Answer, text: &mut [u8]) -> usize {
-    let number = answer.refusal;
-    let to = tell(text, 0, b"refused ", number);
-    match number {
-        4 | 10 => tell(text, to, b" at ", answer.place),
-        5 => {
-            let code = tell(text, to, b" at ", answer.place);
-            tell(text, code, b" code ", answer.code)
+fn tell_answer(answer: Answer) {
+    tell_number(b"", answer.refusal);
+    tell_number(b" ", answer.finished);
+    tell_number(b" ", answer.value);
+    tell_number(b" ", answer.steps);
+    tell_number(b" ", answer.place);
+    tell_number(b" ", answer.code);
+}
+
+fn wide(b: u8) -> u64
+    ensures { λ r. ⌜ r ≤ 255 ⌝ }
+{
+    b as u64
+}
+
+// The Adler-32 checksum of bytes.
+fn checksum(bytes: &[u8]) -> u64 {
+    let mut low: u64 = 1;
+    let mut high: u64 = 0;
+    for i in 0..bytes.len() {
+        low = (low + wide(bytes[i])) % 65521;
+        high = (high + low) % 65521;
+    }
+    high * 65536 + low
+}
+
+fn tell_index(index: u64) {
+    if index < 16 {
+        io::print_hex(STDOUT_FILENO, index, 1);
+        return;
+    }
+    say(b"[");
+    io::print_hex(STDOUT_FILENO, index, 1);
+    say(b"]");
+}
+
+fn tell_mark(mark: u8) {
+    say(&[mark]);
+}
+
+// A term by marks, as questions have it.
+fn tell_term(s: &[u8]) {
+    let mut at: usize = 0;
+    while at < s.len() {
+        match term::head_at(s, at) {
+            Head::Variable(index) => {
+                tell_index(index);
+                at += 9;
+            }
+            Head::Abstraction => {
+                tell_mark(b'\\');
+                at += 1;
+            }
+            Head::Application => {
+                tell_mark(b'@');
+                at += 1;
+            }
+            Head::Nothing => {
+                return;
+            }
         }
-        13 => tell(text, to, b" needs ", answer.value),
-        _ => to,
     }
 }
 
-pub(crate) fn tell_number(answer: Answer, text: &mut [u8]) -> usize {
-    if answer.refusal != 0 {
-        return tell_refusal(answer, text);
+// What has more bytes than these is told by its checksum.
+const MOST_TOLD: usize = 6000;
+
+fn tell_output(kind: usize, written: &[u8]) {
+    if MOST_TOLD < written.len() {
+        tell_number(b"checksum ", checksum(written));
+        return;
     }
-    tell(text, 0, b"", answer.value)
+    if kind == PRINT {
+        say(written);
+        return;
+    }
+    tell_term(written);
 }
 
-pub(crate) fn tell_truth(answer: Answer, text: &mut [u8]) -> usize {
-    if answer.refusal != 0 {
-        return tell_refusal(answer, text);
+// So many bytes of the output are the answer.
+pub(crate) fn tell(kind: usize, answer: Answer, out: &[u8], length: usize) {
+    tell_answer(answer);
+    if 0 < length {
+        say(b" ");
+        tell_output(kind, lines::part(out, 0, length));
     }
-    if answer.value == 0 {
-        return copy(text, 0, b"no");
-    }
-    copy(text, 0, b"yes")
-}
-
-// The term in the first bytes of the output.
-pub(crate) fn tell_term(answer: Answer, out: &[u8], text: &mut [u8]) -> usize {
-    if answer.refusal != 0 {
-        return tell_refusal(answer, text);
-    }
-    terms::write(samples::first(out, answer.value as usize), text, 0)
-}
-
-// How a run ended, and the term reached.
-fn tell_reached(how: &[u8], answer: Answer, out: &[u8], text: &mut [u8]) -> usize {
-    let steps = tell(text, 0, how, answer.steps);
-    let to = copy(text, steps, b" ");
-    terms::write(samples::first(out, answer.value as usize), text, to)
-}
-
-pub(crate) fn tell_run(answer: Answer, out: &[u8], text: &mut [u8]) -> usize {
-    if answer.refusal != 0 {
-        let to = tell_refusal(answer, text);
-        return tell(text, to, b" after ", answer.steps);
-    }
-    if answer.finished == 0 {
-        return tell_reached(b"unfinished ", answer, out, text);
-    }
-    tell_reached(b"finished ", answer, out, text)
 }

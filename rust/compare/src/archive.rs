@@ -82,6 +82,43 @@ fn asked(query: Query) -> Asked {
     }
 }
 
+/// The entry point itself, on what is lent and as it is.
+pub fn enter(call: &Call, out: &mut [u8], room: &mut [u64]) -> Answer {
+    let (o, n) = (out.as_mut_ptr(), out.len());
+    let (r, k) = (room.as_mut_ptr(), room.len());
+    // SAFETY: each pointer goes with the length of its slice, and nothing else is at the slices of output and room
+    unsafe {
+        match *call {
+            Call::Query(query, s) => asked(query)(s.as_ptr(), s.len()),
+            Call::Equality(s, u) => copperjangle_equality(s.as_ptr(), s.len(), u.as_ptr(), u.len()),
+            Call::Print { notation, term: s } => {
+                copperjangle_print(notation, s.as_ptr(), s.len(), o, n)
+            }
+            Call::Parse {
+                notation,
+                cap,
+                text: s,
+            } => copperjangle_parse(notation, cap, s.as_ptr(), s.len(), o, n, r, k),
+            Call::Apply {
+                cap,
+                abstraction: s,
+                argument: u,
+            } => copperjangle_apply(cap, s.as_ptr(), s.len(), u.as_ptr(), u.len(), o, n, r, k),
+            Call::Eta {
+                limit,
+                cap,
+                term: s,
+            } => copperjangle_eta(limit, cap, s.as_ptr(), s.len(), o, n, r, k),
+            Call::Reduce {
+                order,
+                limit,
+                cap,
+                term: s,
+            } => copperjangle_reduce(order, limit, cap, s.as_ptr(), s.len(), o, n, r, k),
+        }
+    }
+}
+
 /// A prime number of cells, so that the pattern falls otherwise in each part of a buffer.
 const PATTERN: usize = 4099;
 
@@ -113,26 +150,15 @@ impl Archive {
     pub fn call(&mut self, call: &Call, lent: Lengths) -> Answer {
         let inputs = call.inputs();
         let second = inputs.get(1).copied().unwrap_or(&[]);
-        let (l, s) = (inputs[0].len(), self.first.lend(inputs[0].len(), inputs[0]));
-        let (m, u) = (second.len(), self.second.lend(second.len(), second));
-        let (n, out) = (lent.out, self.out.lend(lent.out, &[]));
-        let (k, room) = (lent.room, self.room.lend(lent.room, &[]));
-        // SAFETY: each pointer goes with the length of its buffer, and the four buffers are apart
-        unsafe {
-            match *call {
-                Call::Query(query, _) => asked(query)(s, l),
-                Call::Equality(..) => copperjangle_equality(s, l, u, m),
-                Call::Print { notation, .. } => copperjangle_print(notation, s, l, out, n),
-                Call::Parse { notation, cap, .. } => {
-                    copperjangle_parse(notation, cap, s, l, out, n, room, k)
-                }
-                Call::Apply { cap, .. } => copperjangle_apply(cap, s, l, u, m, out, n, room, k),
-                Call::Eta { limit, cap, .. } => copperjangle_eta(limit, cap, s, l, out, n, room, k),
-                Call::Reduce {
-                    order, limit, cap, ..
-                } => copperjangle_reduce(order, limit, cap, s, l, out, n, room, k),
-            }
-        }
+        let copied = call.on(
+            self.first.lend(inputs[0].len(), inputs[0]),
+            self.second.lend(second.len(), second),
+        );
+        enter(
+            &copied,
+            self.out.lend(lent.out, &[]),
+            self.room.lend(lent.room, &[]),
+        )
     }
 
     /// Which buffer is not as the outcome of the last call says.

@@ -114,6 +114,41 @@ impl<'a> Call<'a> {
         }
     }
 
+    /// The same call with other inputs.
+    pub fn on<'b>(&self, first: &'b [u8], second: &'b [u8]) -> Call<'b> {
+        match *self {
+            Call::Query(query, _) => Call::Query(query, first),
+            Call::Equality(..) => Call::Equality(first, second),
+            Call::Print { notation, .. } => Call::Print {
+                notation,
+                term: first,
+            },
+            Call::Parse { notation, cap, .. } => Call::Parse {
+                notation,
+                cap,
+                text: first,
+            },
+            Call::Apply { cap, .. } => Call::Apply {
+                cap,
+                abstraction: first,
+                argument: second,
+            },
+            Call::Eta { limit, cap, .. } => Call::Eta {
+                limit,
+                cap,
+                term: first,
+            },
+            Call::Reduce {
+                order, limit, cap, ..
+            } => Call::Reduce {
+                order,
+                limit,
+                cap,
+                term: first,
+            },
+        }
+    }
+
     fn numbers(&self) -> Vec<u64> {
         match *self {
             Call::Query(..) | Call::Equality(..) => vec![],

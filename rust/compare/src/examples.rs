@@ -26,7 +26,8 @@ fn expand(text: &str, known: &HashMap<&str, String>) -> String {
     all.replace('\\', "λ")
 }
 
-fn coded(text: &str) -> Vec<u8> {
+/// A coded term by its text.
+pub fn coded(text: &str) -> Vec<u8> {
     original::parse(text, Notation::DeBruijn).expect(text)
 }
 

@@ -25,7 +25,7 @@ impl<T: Copy + PartialEq> Lent<T> {
     }
 
     /// Lends so many cells; these stand first, and the others have the pattern.
-    pub fn lend(&mut self, length: usize, first: &[T]) -> *mut T {
+    pub fn lend(&mut self, length: usize, first: &[T]) -> &mut [T] {
         self.turn = (self.turn + 1) % TURNS;
         self.length = length;
         while self.pattern.len() < self.turn + length + 2 * GUARD {
@@ -35,7 +35,7 @@ impl<T: Copy + PartialEq> Lent<T> {
         self.cells.clear();
         self.cells.extend_from_slice(pattern);
         self.cells[GUARD..GUARD + first.len()].copy_from_slice(first);
-        self.cells[GUARD..].as_mut_ptr()
+        &mut self.cells[GUARD..GUARD + length]
     }
 
     /// Whether these cells stand first, and all others, the guards among them, have the pattern still.

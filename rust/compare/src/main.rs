@@ -1,33 +1,42 @@
-//! Compares the archive, and the program reduce_main, with the original crate and with a reference written from the
-//! rules.
+//! Compares the archive with the original crate and with a reference written from the rules, and times both.
 mod answer;
 mod archive;
+mod bench;
 mod call;
-mod case;
+mod cases;
+mod chains;
 mod eta;
 mod examples;
 mod extremes;
+mod growth;
 mod hostile;
 mod hostile_texts;
+mod jobs;
 mod judge;
 mod lent;
-mod lines;
+mod linear;
+mod linear_rows;
 mod original;
+mod picture;
 mod posed;
-mod program;
 mod questions;
 mod random;
 mod reading;
+mod reduce_rows;
 mod reduction;
+mod reductions;
 mod reference;
 mod replay;
 mod rows;
 mod small_terms;
 mod small_texts;
+mod spelling;
+mod step_rows;
+mod tables;
 mod tally;
 mod term;
+mod text_rows;
 mod timing;
-mod vectors;
 
 use call::Written;
 use judge::Judge;
@@ -36,7 +45,7 @@ use std::env;
 use std::time::{Duration, Instant};
 
 const USAGE: &str = "all [SEED [SECONDS]] | texts [LENGTH] | terms [NODES] | random SEED COUNT
-ten-million [SEED] | ask CALL | replay [FOLDER] | vectors [FOLDER] | time [WORDS]";
+ten-million [SEED] | ask CALL | replay [FOLDER] | time [WORDS]";
 
 /// Terms are boxed trees, walked and dropped by recursion: what is too high for the archive may be walked here too.
 const STACK: usize = 1 << 30;
@@ -98,7 +107,6 @@ fn usage() -> bool {
 }
 
 fn run(words: &[String]) -> bool {
-    let program = env::var("PROGRAM").unwrap_or(in_repository("target/bin/reduce_main"));
     let number = |i: usize, otherwise: u64| match words.get(i) {
         Some(word) => word.parse().expect("a number"),
         None => otherwise,
@@ -112,8 +120,7 @@ fn run(words: &[String]) -> bool {
         Some("ten-million") => ten_million(number(1, 1)),
         Some("ask") => ask(&words[1..]),
         Some("replay") => replay::write(&folder("crates/replay")),
-        Some("vectors") => vectors::write(&folder("crates/reduce_main")),
-        Some("time") => timing::run(&program, &words[1..]),
+        Some("time") => bench::run(&words[1..]),
         _ => usage(),
     }
 }

@@ -1,19 +1,12 @@
 //! What crates/replay is asked: examples, all small texts of some shapes, all small terms, and random ones.
 use crate::call::{Call, CLASSIC, DE_BRUIJN, QUERIES};
-use crate::examples::{self, Example};
+use crate::examples::{self, coded, Example};
 use crate::hostile_texts;
-use crate::original;
 use crate::random::*;
 use crate::replay::{Replay, CAP};
 use crate::small_terms::all_terms;
 use crate::small_texts::each_text;
 use crate::term::*;
-use lambda_calculus::term::Notation;
-
-/// A coded term by its text, in which a backslash stands for the sign.
-fn coded(text: &str) -> Vec<u8> {
-    original::parse(text, Notation::DeBruijn).expect(text)
-}
 
 impl Replay {
     fn text(&mut self, notation: u64, text: &str) -> bool {
@@ -108,10 +101,8 @@ fn documented(replay: &mut Replay) {
     for (index, example) in examples::all().iter().enumerate() {
         let Example::Of(text) = example else { continue };
         replay.text(DE_BRUIJN, text);
-        let (s, other) = (coded(text), 1 + index as u64 % 6);
-        for (order, limit) in [(0, 1000), (6, 1000), (other, 3), (other, 100)] {
-            replay.reduce(order, limit, &s);
-        }
+        let s = coded(text);
+        replay.reduce(1 + index as u64 % 6, 100, &s);
         replay.eta(0, &s);
         replay.add(&Call::Print {
             notation: CLASSIC,
@@ -178,6 +169,8 @@ fn any(replay: &mut Replay, r: &mut Random) -> bool {
 }
 
 pub fn all(replay: &mut Replay) {
+    replay.title("# answers of the original");
+    replay.state(CAP);
     for part in [listed, documented, small] {
         part(replay);
     }

@@ -4,6 +4,8 @@ use crate::term::*;
 use Order::*;
 use Way::*;
 
+// their names are the original's
+#[allow(clippy::upper_case_acronyms)]
 #[derive(Clone, Copy, PartialEq, Eq, Debug)]
 pub enum Order {
     NOR,

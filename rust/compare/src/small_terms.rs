@@ -77,8 +77,8 @@ pub fn run(judge: &mut Judge, most: u64) {
             }
             runs(judge, n as u64, term);
             texts(judge, n as u64, term);
-            for m in 1..=most as usize - n {
-                pairs(judge, term, n as u64, &all[m], m as u64);
+            for (m, others) in all.iter().enumerate().skip(1).take(most as usize - n) {
+                pairs(judge, term, n as u64, others, m as u64);
             }
         }
     }

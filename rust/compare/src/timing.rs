@@ -1,207 +1,255 @@
-//! Times the program beside the original: one row after another, round by round, the least time of each.
-use crate::case::Case;
+//! Times one job of both sides, and the clearing of the room, in turn: the least time of each.
+use crate::archive::enter;
+use crate::call::{Call, Lengths};
+use crate::jobs::Job;
 use crate::original;
-use crate::program;
-use crate::reduction::Order::NOR;
-use crate::rows::{rows, Row};
-use crate::term::*;
-use std::env;
 use std::hint::black_box;
 
-const ROUNDS: u64 = 9;
+/// Processor time of this thread, as POSIX has it.
+#[repr(C)]
+#[derive(Default)]
+struct Timespec {
+    seconds: i64,
+    nanoseconds: i64,
+}
 
-/// What a round takes at least, in microseconds, which are what both clocks count.
-const ROUND: f64 = 5000.0;
+const THREAD_CLOCK: i32 = 3;
 
 extern "C" {
-    /// Processor time in microseconds, as POSIX has it, by the same call of the C library that the program makes.
-    fn clock() -> std::ffi::c_long;
+    fn clock_gettime(clock: i32, time: *mut Timespec) -> i32;
 }
 
+/// In microseconds.
 fn now() -> f64 {
-    // SAFETY: it takes nothing and only returns a number
-    unsafe { clock() as f64 }
+    let mut time = Timespec::default();
+    // SAFETY: it writes the time, whose layout is that of x86-64 Linux
+    let failed = unsafe { clock_gettime(THREAD_CLOCK, &mut time) };
+    assert_eq!(failed, 0, "no clock");
+    time.seconds as f64 * 1e6 + time.nanoseconds as f64 / 1e3
 }
+
+/// What a round of one side takes at least, in microseconds, where a call takes less.
+const ROUND: f64 = 4000.0;
+
+const ROUNDS: usize = 9;
+
+/// Fewer rounds where one call takes longer than this.
+const LONG: f64 = 50_000.0;
+const LONG_ROUNDS: usize = 5;
+
+/// Where the archive is timed alone, one call makes a round if it takes longer than this.
+pub const LONG_ALONE: f64 = 100_000.0;
+
+#[derive(Clone, Copy)]
+enum Side {
+    Original,
+    Archive,
+    Clearing,
+}
+
+const SIDES: [Side; 3] = [Side::Original, Side::Archive, Side::Clearing];
 
 /// Least times of one call, in microseconds.
-struct Times {
-    /// The original's `reduce`; its terms are made and dropped outside.
-    bare: f64,
-    /// The original's decoding, `reduce`, encoding and dropping, as the program's call has them.
-    whole: f64,
-    /// The program's call on one variable under the same cap: most of it is the clearing of the room.
-    trivial: f64,
-    program: f64,
+#[derive(Clone, Copy)]
+pub struct Times {
+    pub original: f64,
+    pub archive: f64,
+    pub clearing: f64,
 }
 
-fn bare_time(row: &Row, calls: u64) -> f64 {
-    let first = original::decode(&bytes(&row.term), &mut 0);
-    let order = original::order(row.order);
-    let most = (200_000 / nodes(&row.term)).clamp(1, 2000);
-    let (mut total, mut left) = (0.0, calls);
-    while left > 0 {
-        let mut terms = vec![first.clone(); left.min(most) as usize];
-        left -= terms.len() as u64;
+const LEAST_RATIO: f64 = 0.001;
+
+impl Times {
+    pub fn with_clearing(&self) -> f64 {
+        self.archive / self.original
+    }
+
+    pub fn without_clearing(&self) -> f64 {
+        ((self.archive - self.clearing) / self.original).max(LEAST_RATIO)
+    }
+}
+
+/// Times of one call in one round without the original, in microseconds.
+#[derive(Clone, Copy)]
+pub struct Alone {
+    pub archive: f64,
+    pub clearing: f64,
+}
+
+impl Alone {
+    pub fn least(self, other: Alone) -> Alone {
+        Alone {
+            archive: self.archive.min(other.archive),
+            clearing: self.clearing.min(other.clearing),
+        }
+    }
+}
+
+/// The least time so far of a call of one side, of which a round has so many.
+struct Least {
+    side: Side,
+    calls: u64,
+    time: f64,
+}
+
+/// Both sides of a job, ready to be called.
+struct Sides<'a> {
+    original: Box<dyn FnMut() + 'a>,
+    call: Call<'a>,
+    out: &'a mut [u8],
+    room: &'a mut [u64],
+}
+
+impl Sides<'_> {
+    fn time(&mut self, side: Side, calls: u64) -> f64 {
         let from = now();
-        for t in &mut terms {
-            black_box(t.reduce(order, row.limit as usize));
+        for _ in 0..calls {
+            match side {
+                Side::Original => (self.original)(),
+                Side::Archive => {
+                    black_box(enter(black_box(&self.call), self.out, self.room));
+                }
+                Side::Clearing => black_box(&mut *self.room).fill(0),
+            }
         }
-        total += now() - from;
+        now() - from
     }
-    total / calls as f64
-}
 
-fn whole_time(row: &Row, calls: u64) -> f64 {
-    let s = bytes(&row.term);
-    let order = original::order(row.order);
-    let mut out = vec![];
-    let from = now();
-    for _ in 0..calls {
-        out.clear();
-        let mut t = original::decode(black_box(&s), &mut 0);
-        black_box(t.reduce(order, row.limit as usize));
-        original::encode(&t, &mut out);
-        black_box(&out);
-    }
-    (now() - from) / calls as f64
-}
-
-/// The trivial call and the row's, each made so often.
-fn program_times(program: &str, row: &Row, cap: u64, calls: [u64; 2]) -> [f64; 2] {
-    let trivial = Case::of_term(NOR, 1, cap, &var(1)).line();
-    let line = Case::of_term(row.order, row.limit, cap, &row.term).line();
-    let input = format!("{} {trivial}\n{} {line}\n", calls[0], calls[1]);
-    let (_, times) = program::run(program, &input);
-    let times: Vec<f64> = times
-        .lines()
-        .map(|line| line.split_once(' ').unwrap().1.parse().unwrap())
-        .collect();
-    [times[0] / calls[0] as f64, times[1] / calls[1] as f64]
-}
-
-/// How often to call so that a round is long enough.
-fn calls(once: f64) -> u64 {
-    (ROUND / once.max(0.1)).ceil().min(20_000.0) as u64
-}
-
-fn times(program: &str, row: &Row, cap: u64) -> Times {
-    let many = program_times(program, row, cap, [1, 1]).map(calls);
-    let many_original = calls(whole_time(row, 1));
-    let mut least = Times {
-        bare: f64::MAX,
-        whole: f64::MAX,
-        trivial: f64::MAX,
-        program: f64::MAX,
-    };
-    for _ in 0..ROUNDS {
-        least.bare = least.bare.min(bare_time(row, many_original));
-        let [trivial, time] = program_times(program, row, cap, many);
-        least.trivial = least.trivial.min(trivial);
-        least.program = least.program.min(time);
-        least.whole = least.whole.min(whole_time(row, many_original));
-    }
-    least
-}
-
-/// The least cap under which nothing is refused, of those that double from the first.
-fn least_cap(program: &str, row: &Row) -> Option<u64> {
-    let mut cap = match env::var("CAP") {
-        Ok(first) => first.parse().expect("a number"),
-        Err(_) => nodes(&row.term).next_power_of_two(),
-    };
-    while cap <= 65_536 {
-        let line = Case::of_term(row.order, row.limit, cap, &row.term).line();
-        let (said, _) = program::run(program, &(line + "\n"));
-        if !said.starts_with("refused") {
-            return Some(cap);
-        }
-        cap *= 2;
-    }
-    None
-}
-
-const HEADS: &str =
-    "| term | order | cap | original µs | with coding µs | program µs | trivial µs \
-    | program / original | less trivial | less trivial / with coding |";
-
-/// A row's ratios to the bare original and to the one with coding, without the trivial call and with it.
-struct Ratios {
-    group: &'static str,
-    bare: f64,
-    coded: f64,
-    bare_all: f64,
-    coded_all: f64,
-}
-
-fn tell(program: &str, row: &Row, cap: u64) -> Ratios {
-    let t = times(program, row, cap);
-    let work = (t.program - t.trivial).max(0.0);
-    let measured = [t.bare, t.whole, t.program, t.trivial].map(|x| format!("{x:.1}"));
-    let ratios = [t.program / t.bare, work / t.bare, work / t.whole].map(|x| format!("{x:.2}"));
-    println!(
-        "| {} | {:?} | {cap} | {} | {} |",
-        row.name,
-        row.order,
-        measured.join(" | "),
-        ratios.join(" | ")
-    );
-    Ratios {
-        group: row.group,
-        bare: work / t.bare,
-        coded: work / t.whole,
-        bare_all: t.program / t.bare,
-        coded_all: t.program / t.whole,
-    }
-}
-
-/// Geometric mean, least and greatest.
-fn spread(values: &[f64]) -> [f64; 3] {
-    let logs: f64 = values.iter().map(|x| x.max(0.01).ln()).sum();
-    let least = values.iter().copied().fold(f64::MAX, f64::min);
-    let greatest = values.iter().copied().fold(0.0, f64::max);
-    [(logs / values.len() as f64).exp(), least, greatest]
-}
-
-fn tell_group(name: &str, rows: &[&Ratios]) {
-    let of = |f: fn(&Ratios) -> f64| spread(&rows.iter().map(|r| f(r)).collect::<Vec<f64>>());
-    let ([bare, b0, b1], [coded, c0, c1]) = (of(|r| r.bare), of(|r| r.coded));
-    let ([bare_all, ..], [coded_all, ..]) = (of(|r| r.bare_all), of(|r| r.coded_all));
-    let count = rows.len();
-    println!(
-        "| {name} | {count} | {bare:.2} | {b0:.2} to {b1:.2} | {bare_all:.2} \
-        | {coded:.2} | {c0:.2} to {c1:.2} | {coded_all:.2} |"
-    );
-}
-
-const GROUP_HEADS: &str = "| group | rows | bare | least and greatest | with clearing \
-    | with coding | least and greatest | with clearing |";
-
-fn tell_groups(ratios: &[Ratios]) {
-    println!("\n{GROUP_HEADS}\n|{}", "---|".repeat(8));
-    let mut left: &[Ratios] = ratios;
-    while let Some(first) = left.first() {
-        let count = left.iter().take_while(|r| r.group == first.group).count();
-        tell_group(first.group, &left[..count].iter().collect::<Vec<&Ratios>>());
-        left = &left[count..];
-    }
-    if !ratios.is_empty() {
-        tell_group("all", &ratios.iter().collect::<Vec<&Ratios>>());
-    }
-}
-
-pub fn run(program: &str, words: &[String]) -> bool {
-    println!("{HEADS}\n|{}", "---|".repeat(10));
-    let mut ratios = vec![];
-    for row in rows() {
-        let full = format!("{} {:?}", row.name, row.order);
-        if !words.is_empty() && !words.iter().any(|word| full.contains(word)) {
-            continue;
-        }
-        match least_cap(program, &row) {
-            Some(cap) => ratios.push(tell(program, &row, cap)),
-            None => println!("| {} | {:?} | refused under any cap |", row.name, row.order),
+    /// How often to call so that a round is long enough. The first call is not counted: it meets cold caches.
+    fn calls(&mut self, side: Side) -> u64 {
+        self.time(side, 1);
+        let mut calls = 1;
+        loop {
+            let time = self.time(side, calls);
+            if time >= ROUND / 4.0 {
+                return (calls as f64 * ROUND / time).ceil() as u64;
+            }
+            calls *= 2;
         }
     }
-    tell_groups(&ratios);
-    true
+
+    fn start(&mut self, side: Side) -> Least {
+        Least {
+            side,
+            calls: self.calls(side),
+            time: f64::MAX,
+        }
+    }
+
+    fn round(&mut self, all: &mut [Least]) {
+        for least in all {
+            let time = self.time(least.side, least.calls) / least.calls as f64;
+            least.time = least.time.min(time);
+        }
+    }
+
+    fn rounds(&mut self) -> Times {
+        let mut least = SIDES.map(|side| self.start(side));
+        let mut round = 0;
+        while round < LONG_ROUNDS || round < ROUNDS && least[..2].iter().all(|l| l.time < LONG) {
+            self.round(&mut least);
+            round += 1;
+        }
+        let [original, archive, clearing] = least.map(|l| l.time);
+        Times {
+            original,
+            archive,
+            clearing: if self.room.is_empty() { 0.0 } else { clearing },
+        }
+    }
+
+    /// One round of the archive and of clearing; of the archive one call, where that is long.
+    fn alone(&mut self) -> Alone {
+        let mut clearing = [self.start(Side::Clearing)];
+        self.round(&mut clearing);
+        let mut archive = self.time(Side::Archive, 1);
+        if archive < LONG_ALONE {
+            let mut least = [self.start(Side::Archive)];
+            self.round(&mut least);
+            archive = least[0].time;
+        }
+        Alone {
+            archive,
+            clearing: clearing[0].time,
+        }
+    }
+}
+
+/// What is lent to the archive, again and again.
+pub struct Buffers {
+    out: Vec<u8>,
+    room: Vec<u64>,
+}
+
+pub const MOST_NODES: usize = 65_536;
+
+impl Buffers {
+    pub fn new() -> Buffers {
+        Buffers {
+            out: vec![1; 20 * MOST_NODES],
+            room: vec![1; 8 * MOST_NODES],
+        }
+    }
+
+    /// The least cap under which nothing is refused, of those that double from the first, or else the refusal.
+    pub fn least_cap(&mut self, job: &Job, first: u64) -> Result<u64, u64> {
+        let mut cap = first;
+        loop {
+            let lent = job.lengths(cap);
+            let room = &mut self.room[..lent.room];
+            let answer = enter(&job.call(cap), &mut self.out[..lent.out], room);
+            if answer.refusal == 0 {
+                return Ok(cap);
+            }
+            cap *= 2;
+            if cap > MOST_NODES as u64 {
+                return Err(answer.refusal);
+            }
+        }
+    }
+
+    /// Both sides must answer the same, with the same bytes.
+    fn check(&mut self, call: &Call, lent: Lengths) {
+        let room = &mut self.room[..lent.room];
+        let answer = enter(call, &mut self.out[..lent.out], room);
+        let wanted = original::outcome(call);
+        assert_eq!(answer, wanted.answer, "the answers differ");
+        let same = self.out.starts_with(&wanted.first);
+        assert!(same, "the answers' bytes differ");
+        assert!(room.iter().all(|n| *n == 0), "the room is not cleared");
+    }
+
+    pub fn time(&mut self, job: &Job, cap: u64) -> Times {
+        let (call, lent) = (job.call(cap), job.lengths(cap));
+        self.check(&call, lent);
+        self.sides(call, lent, job.original()).rounds()
+    }
+
+    /// The archive's refusal; where there is none, both sides must answer the same.
+    pub fn refusal(&mut self, call: &Call, lent: Lengths) -> u64 {
+        let room = &mut self.room[..lent.room];
+        let refusal = enter(call, &mut self.out[..lent.out], room).refusal;
+        if refusal == 0 {
+            self.check(call, lent);
+        }
+        refusal
+    }
+
+    pub fn time_alone(&mut self, call: Call, lent: Lengths) -> Alone {
+        self.sides(call, lent, Box::new(|| ())).alone()
+    }
+
+    fn sides<'a>(
+        &'a mut self,
+        call: Call<'a>,
+        lent: Lengths,
+        original: Box<dyn FnMut() + 'a>,
+    ) -> Sides<'a> {
+        Sides {
+            original,
+            call,
+            out: &mut self.out[..lent.out],
+            room: &mut self.room[..lent.room],
+        }
+    }
 }

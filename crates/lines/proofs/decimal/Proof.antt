@@ -19,7 +19,6 @@ decimal-spec =
     μ-loop
     (λ c. search needs)
     (λ c. search needs)
-    (λ c. search needs)
     (λ c κs. search needs)
     (λ c. search needs)
     (λ c. search needs)

@@ -1,19 +1,18 @@
 -- `replay::answer_lines` is safe and ends.
 use Prim.Native.Nat.{_-_, _≤_}
-use mathlib.Core.Path.{_≡_}
+use mathlib.Core.Path.{_≡_, sym}
 use lib.ListN.{length}
 use borrow.Author.Needs.{needs}
 use Rattle.replay.proofs.answer_lines.Statement.{statement}
 use Rattle.replay.proofs.answer_lines.Tie as tie
 
 abbrev Inv-loop : tie.InvT-loop
-Inv-loop input coded₀ out₀ room₀ text₀ at₀ t9 counter₀ end coded out room text at counter =
-    (counter ≤ length input) × (length coded ≡ length coded₀) × (length out ≡ length out₀) ×
-    (length room ≡ length room₀) × (length text ≡ length text₀)
+Inv-loop input work₀ out₀ room₀ lent₀ at₀ counter₀ end work out room lent at counter =
+    (counter ≤ length input) × (length work ≡ length work₀) × (length out ≡ length out₀)
+    × (length room ≡ length room₀)
 
 abbrev μ-loop : tie.MeasureT-loop
-μ-loop input coded₀ out₀ room₀ text₀ at₀ t9 counter₀ end coded out room text at counter =
-    length input - counter
+μ-loop input work₀ out₀ room₀ lent₀ at₀ counter₀ end work out room lent at counter = length input - counter
 
 pub answer-lines-spec : {M : Type 1} → statement M
 answer-lines-spec =
@@ -21,7 +20,7 @@ answer-lines-spec =
     (tie.spec
     Inv-loop
     μ-loop
-    (λ c. search needs)
+    (λ c κs. search needs)
     (λ c. search needs)
     (λ c. search needs)
     (λ c. search needs)
@@ -31,16 +30,6 @@ answer-lines-spec =
     (λ c κs. search needs)
     (λ c κs. search needs)
     (λ c κs. search needs)
-    (λ c κs. search needs)
-    (λ c. search needs)
-    (λ c κs. search needs)
-    (λ c. search needs)
-    (λ c. search needs)
-    (λ c. search needs)
-    (λ c. search needs)
-    (λ c. search needs)
-    (λ c. search needs)
-    (λ c. search needs)
     (λ c. search needs)
     (λ c. search needs)
     (λ c. search needs)
