@@ -19,8 +19,15 @@ use Rattle.calculus.proofs.Lowering.{eta-smaller}
 use Rattle.calculus.proofs.Measures.{nodes-positive}
 use Rattle.calculus.proofs.Putting.{Puts}
 use Rattle.calculus.proofs.Sizes.{nine-per-node, size-positive}
+use Rattle.calculus.proofs.Coding.{AllBytes}
+use Rattle.term.specs.Answers.{check-told, check-of}
+use Rattle.term.specs.FactsOf.{facts-of}
 use Rattle.term.specs.Surveys.{Admitted}
+use Rattle.term.specs.declared.Facts.{Facts}
+use Rattle.term.specs.declared.Checked.{Checked}
+use Rattle.term.specs.declared.Checked.the-variants as checks
 use Rattle.term.specs.declared.Refusal.{Refusal}
+use Rattle.term.proofs.Checking.{check-whole, check-admits}
 use Rattle.term.proofs.Places.{size-within}
 use Rattle.nodes.specs.Answers.{granted-told, granting, run-told}
 use Rattle.nodes.specs.Lending.{Lent}
@@ -33,13 +40,15 @@ use Rattle.nodes.proofs.Granting.{not-granted, Passed, answered}
 use Rattle.eta.specs.Named.{named, plain, levels}
 use Rattle.eta.specs.Scope.{Among, first, later, Scoped}
 use Rattle.eta.specs.Shrinking.{Came, shrunk}
+use Rattle.eta.specs.Levelled.{Levelled}
 use Rattle.eta.specs.Naming.{Nameable, Reads}
 use Rattle.eta.specs.Shrinks.{Shrinkable, Shrinks}
 use Rattle.eta.specs.Writing.{Placed, Writable, Writes}
 use Rattle.nodes.specs.Working.{Works}
 use Rattle.eta.specs.declared.naming.Read.{Read}
 use Rattle.eta.specs.declared.shrinking.Shrunk.{Shrunk}
-use Rattle.eta.proofs.Levels.{scoped-named, plain-named, weight-named}
+use Rattle.eta.proofs.Levels.{scoped-named, plain-named, rise-named, weight-named}
+use Rattle.eta.proofs.Ways.{rise-shrunk}
 use Rattle.eta.proofs.Sequence.{scoped-shrunk, eta-shrunk, eta-whole}
 
 no-higher : {n : ℕ} {t u : Term} → EtaSteps n t u → height u ≤ height t
@@ -50,15 +59,34 @@ among-none : {k : ℕ} {around : List ℕ} → Among k around → around ≡ [] 
 among-none first e = let never : _≡_ {A = ℕ} 0 1 = cc in omega arith
 among-none (later a) e = let never : _≡_ {A = ℕ} 0 1 = cc in omega arith
 
+-- THE LEVELS that a checked term needs, by its height
+pub checked-levels : (cap : ℕ) (s : List ℕ) {r : Checked} → check-told r ≡ check-of cap s → AllBytes s → {f : Facts}
+    → r ≡ checks.Whole f
+    → Levelled cap s (f .height) × (f .height ≤ most-height)
+unfolding facts-of
+checked-levels cap s says bytes e =
+    let whole = check-whole cap s says e in
+    let input = check-admits cap s says bytes e in
+    let same : whole .term ≡ input .term = cc (whole .let-through, input .passes) in
+    let tall = ap (λ f. f .height) (whole .same) ∙ ap height same in
+    let low = checked-given s (input .passes) .1 in
+    (record { input = input; enough = omega arith }, omega arith)
+
+pub more-levels : {cap : ℕ} {s : List ℕ} {few many : ℕ} → Levelled cap s few → few ≤ many → Levelled cap s many
+more-levels l h = record { input = l .input; enough = omega (arith, l .enough) }
+
 -- THE INPUT: a whole term, its names, and what they come to
-module _ {cap : ℕ} {s out store : List ℕ} (lent : Lent cap out store) (input : Admitted cap s) where
+module _ {cap count : ℕ} {s out store : List ℕ} (lent : Lent cap out store) (levelled : Levelled cap s count) where
+  abbrev input : Admitted cap s
+  input = levelled .input
+
   few : nodes (input .term) ≤ cap
   few = checked-given s (input .passes) .2
 
   low : height (input .term) ≤ most-height
   low = checked-given s (input .passes) .1
 
-  pub load-asks : (counts : List ℕ) → length counts ≡ most-height → Nameable s 0 store 0 counts 0
+  pub load-asks : (counts : List ℕ) → length counts ≡ count → Nameable s 0 store 0 counts 0
   load-asks counts long = record {
     term = input .term;
     stands = input .stands;
@@ -66,10 +94,11 @@ module _ {cap : ℕ} {s out store : List ℕ} (lent : Lent cap out store) (input
     fits = omega (arith, few, lent .room);
     few = omega (arith, few, lent .in-bounds);
     low = omega (arith, low);
-    countable = record { long = long; few = λ k lt. absurd (omega arith) };
+    deep = omega (arith, levelled .enough);
+    countable = record { long = omega arith; few = λ k lt. absurd (omega arith) };
   }
 
-  module _ {counts counts′ : List ℕ} (long : length counts ≡ most-height) {read : Read} {mid : List ℕ}
+  module _ {counts counts′ : List ℕ} (long : length counts ≡ count) {read : Read} {mid : List ℕ}
       (reads : Reads s 0 store 0 counts 0 read mid counts′) where
     pub some-read : 0 < read .used
     some-read = omega (arith, reads .made (input .term) (input .stands), nodes-positive (input .term))
@@ -119,7 +148,6 @@ module _ {cap : ℕ} {s out store : List ℕ} (lent : Lent cap out store) (input
 
       none-placed : Placed counts′ []
       none-placed = record {
-        long = reads .counted (input .term) (input .stands) .as-long ∙ long;
         placed = λ k among. absurd (among-none among refl);
         rising = λ k among. absurd (among-none among refl);
         low = omega arith;
@@ -141,6 +169,13 @@ module _ {cap : ℕ} {s out store : List ℕ} (lent : Lent cap out store) (input
             deep = refl;
             low = omega (arith, low);
             placed = none-placed;
+            levels = omega (
+              arith,
+              rise-shrunk (may-follow limit) 0 (named 0 (input .term)),
+              rise-named 0 (input .term),
+              levelled .enough,
+              reads .counted (input .term) (input .stands) .as-long,
+            );
             fits = omega (arith, nine-per-node reached, few, lent .output);
           }
 

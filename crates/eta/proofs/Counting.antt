@@ -10,7 +10,7 @@ use lib.ListN.{length, set, getD, length-set}
 use lib.Seq.{getD-set-same, getD-set-other}
 use borrow.Author.Tests.{eqb-true, eqb-false, ne-eqb}
 use Rattle.calculus.specs.Term.{Term, var, lam, app, nodes}
-use Rattle.calculus.specs.Bounds.{most-nodes, most-height}
+use Rattle.calculus.specs.Bounds.{most-nodes}
 use Rattle.eta.specs.Named.{Named, bound, loose, binds, joins, named, uses}
 use Rattle.eta.specs.Naming.{Counts, Countable}
 
@@ -80,15 +80,15 @@ uses-few k d (app l r) = omega (arith, uses-few k d l, uses-few k d r)
 pub fewer : {counts : List ℕ} {depth n : ℕ} (m : ℕ) → m ≤ n → Countable counts depth n → Countable counts depth m
 fewer m le now = record { long = now .long; few = λ k lt. omega (arith, now .few k lt) }
 
-pub countable-body : {counts : List ℕ} {depth n : ℕ} (m : ℕ) → m ≤ n → m ≤ 4 * most-nodes → depth < most-height
+pub countable-body : {counts : List ℕ} {depth n : ℕ} (m : ℕ) → m ≤ n → m ≤ 4 * most-nodes → depth < length counts
     → Countable counts depth n → Countable (set counts depth 0) (depth + 1) m
 countable-body {counts} {depth} m le few inside now = record {
-  long = length-set counts depth 0 ∙ now .long;
+  long = omega (arith, length-set counts depth 0);
   few = λ k lt.
       elim (decLe depth k) [
         | yes h ↦
             let own : k ≡ depth = omega arith in
-            rw (own, getD-set-same counts depth 0 0 (omega (arith, now .long))) (omega arith)
+            rw (own, getD-set-same counts depth 0 0 inside) (omega arith)
         | no h ↦
             rw (getD-set-other counts depth k 0 0 (λ e. omega arith)) (omega (arith, now .few k (omega arith)))
       ];
@@ -97,6 +97,6 @@ countable-body {counts} {depth} m le few inside now = record {
 pub countable-after : {counts mid : List ℕ} {depth n : ℕ} (m : ℕ) (l : Named) → ((k : ℕ) → uses k l + m ≤ n)
     → Countable counts depth n → Counts counts mid depth l → Countable mid depth m
 countable-after m l le now first = record {
-  long = first .as-long ∙ now .long;
+  long = omega (arith, first .as-long, now .long);
   few = λ k lt. omega (arith, now .few k lt, first .added k lt, le k);
 }

@@ -9,7 +9,7 @@ use lib.ListN.{length}
 use Rattle.calculus.specs.Term.{Term, var, lam, app, nodes, height, greatest-index}
 use Rattle.calculus.specs.Bounds.{most-height, greatest-number}
 use Rattle.calculus.proofs.Measures.{height-positive}
-use Rattle.eta.specs.Named.{Named, bound, loose, binds, joins, named, place, plain, levels, weight}
+use Rattle.eta.specs.Named.{Named, bound, loose, binds, joins, named, place, plain, levels, rise, weight}
 use Rattle.eta.specs.Scope.{Among, first, later, top, Scoped}
 
 length-levels : (d : ℕ) → length (levels d) ≡ d
@@ -90,6 +90,13 @@ scoped-named d (lam b) g h =
     (omega (arith, top-levels d), omega (arith, height-positive b), scoped-named (suc d) b g (omega arith))
 scoped-named d (app l r) g h =
     (scoped-named d l (omega arith) (omega arith), scoped-named d r (omega arith) (omega arith))
+
+pub rise-named : (d : ℕ) (t : Term) → rise (named d t) ≤ d + height t
+unfolding named rise height
+rise-named d (var i) =
+    of-variable (λ τ. rise τ ≤ d + 1) d i (λ e. omega arith) (λ l k. omega arith) (λ k. omega arith)
+rise-named d (lam b) = omega (arith, rise-named (suc d) b)
+rise-named d (app l r) = omega (arith, rise-named d l, rise-named d r)
 
 -- NODES
 pub weight-plain : (around : List ℕ) (τ : Named) → nodes (plain around τ) ≡ weight τ

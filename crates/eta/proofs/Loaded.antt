@@ -6,7 +6,7 @@ use mathlib.Core.List.{List}
 use native.Mathlib.Omega.{arith}
 use native.Mathlib.Numerals.{add-one}
 use lib.Dec.{eqb}
-use lib.ListN.{length, set, getD, drop}
+use lib.ListN.{length, set, getD, drop, length-set}
 use Rattle.calculus.specs.Term.{Term, var, lam, nodes, height}
 use Rattle.calculus.specs.Bounds.{most-nodes, most-height}
 use Rattle.calculus.proofs.Measures.{nodes-positive, height-positive}
@@ -35,15 +35,16 @@ named-under d b = rw (add-one d)
 -- what a call asks: a term that stands there, if the room and the bounds allow it
 nameable : {s : List ℕ} {at : ℕ} {room : List ℕ} {used : ℕ} {counts : List ℕ} {depth : ℕ} (t : Term) → Stands s at t
     → 2 * (used + nodes t) ≤ length room → used + nodes t ≤ 2 * most-nodes → depth + height t ≤ most-height
-    → Countable counts depth (nodes t)
+    → depth + height t ≤ length counts → Countable counts depth (nodes t)
     → Nameable s at room used counts depth
-nameable t st fits few low countable = record {
+nameable t st fits few low deep countable = record {
   term = t;
   stands = st;
   inside = omega (arith, size-within st, size-positive t);
   fits = fits;
   few = few;
   low = low;
+  deep = deep;
   countable = countable;
 }
 
@@ -59,6 +60,9 @@ module _ {s : List ℕ} {at : ℕ} {room : List ℕ} {used : ℕ} {counts : List
 module _ {s : List ℕ} {at : ℕ} {room : List ℕ} {used : ℕ} {counts : List ℕ} {depth : ℕ} where
   pub depth-low : Nameable s at room used counts depth → depth < most-height
   depth-low asked = omega (arith, asked .low, height-positive (asked .term))
+
+  pub depth-inside : Nameable s at room used counts depth → depth < length counts
+  depth-inside asked = omega (arith, asked .deep, height-positive (asked .term))
 
   -- A VARIABLE
   module _ {i : ℕ} (h : head-in (drop at s) ≡ Variable i) where
@@ -98,7 +102,8 @@ module _ {s : List ℕ} {at : ℕ} {room : List ℕ} {used : ℕ} {counts : List
         let n = ap nodes (v .same) in
         nameable (v .body) (v .body-at) (omega (arith, asked .fits)) (omega (arith, asked .few))
         (omega (arith, asked .low, ap height (v .same)))
-        (countable-body (nodes (v .body)) (omega arith) (omega (arith, asked .few)) (depth-low asked)
+        (omega (arith, asked .deep, ap height (v .same), length-set counts depth 0))
+        (countable-body (nodes (v .body)) (omega arith) (omega (arith, asked .few)) (depth-inside asked)
         (asked .countable))
 
     module _ {body : Read} {mid counts′ : List ℕ}
@@ -117,8 +122,7 @@ module _ {s : List ℕ} {at : ℕ} {room : List ℕ} {used : ℕ} {counts : List
           → Names after (named depth (lam b)) (body .used)
       unfolding uses has-zero
       binder-named b st word-is added =
-          let inside : depth < length counts = omega (arith, depth-low asked, asked .countable .long) in
-          let count = counted-binder counts (reads .counted b st) inside in
+          let count = counted-binder counts (reads .counted b st) (depth-inside asked) in
           let grown = some-made body-asks reads in
           rw (named-under depth b)
           (binds-stored added depth (named (depth + 1) b) (word-is ∙ rw (count, reads .zero b st)) (omega arith)
@@ -161,7 +165,8 @@ module _ {s : List ℕ} {at : ℕ} {room : List ℕ} {used : ℕ} {counts : List
         let v = is-application (asked .term) h (asked .stands) in
         let n = ap nodes (v .same) in
         nameable (v .left) (v .left-at) (omega (arith, asked .fits)) (omega (arith, asked .few))
-        (omega (arith, asked .low, ap height (v .same))) (fewer (nodes (v .left)) (omega arith) (asked .countable))
+        (omega (arith, asked .low, ap height (v .same))) (omega (arith, asked .deep, ap height (v .same)))
+        (fewer (nodes (v .left)) (omega arith) (asked .countable))
 
     module _ {left : Read} {mid counts₁ : List ℕ}
         (first : Reads s (at + 1) room used counts depth left mid counts₁) where
@@ -178,6 +183,7 @@ module _ {s : List ℕ} {at : ℕ} {room : List ℕ} {used : ℕ} {counts : List
           nameable (v .right) (right-stands (asked .term) (asked .stands))
           (omega (arith, asked .fits, first .same .as-long)) (omega (arith, asked .few))
           (omega (arith, asked .low, ap height (v .same)))
+          (omega (arith, asked .deep, ap height (v .same), first .counted (v .left) (v .left-at) .as-long))
           (countable-after (nodes (v .right)) (named depth (v .left)) (λ k. omega (arith, uses-few k depth (v .left)))
           (asked .countable) (first .counted (v .left) (v .left-at)))
 

@@ -1,5 +1,5 @@
 -- What is named in a term, what stays named when a binder goes, and which binder may go.
-use Prim.Native.Nat.{ℕ, _+_}
+use Prim.Native.Nat.{ℕ, _+_, _≤_}
 use mathlib.Core.Path.{_≡_, refl, sym, ap₂, _∙_}
 use mathlib.Core.Bool.{Bool, true, false, not, _&&_, _||_, or-false, false≢true}
 use native.Mathlib.Omega.{arith}
@@ -7,7 +7,7 @@ use native.Mathlib.Decide.{ℕ-discrete}
 use borrow.Author.Tests.{eq-eqb, ne-eqb, eqb-true, not-true}
 use lib.Dec.{eqb}
 use Rattle.calculus.proofs.Tests.{both}
-use Rattle.eta.specs.Named.{Named, bound, loose, binds, joins, weight, uses, has-zero, lone}
+use Rattle.eta.specs.Named.{Named, bound, loose, binds, joins, rise, weight, uses, has-zero, lone}
 use Rattle.eta.specs.Shrinking.{ends-in, applied}
 
 -- neither the binder nor index 0 is in it
@@ -81,6 +81,10 @@ alike-place {k} (applies {l = l} u z) =
           ];
       zero-too = sym (or-false (has-zero l));
     }
+
+pub lower-place : {k : ℕ} {b : Named} → Place k b → rise (applied b) ≤ rise b
+unfolding rise
+lower-place (applies u z) = omega arith
 
 pub three-nodes : {k : ℕ} {b : Named} → Place k b → weight (binds k b) ≡ 3 + weight (applied b)
 unfolding weight

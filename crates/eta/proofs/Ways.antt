@@ -4,10 +4,10 @@ use mathlib.Core.Path.{_≡_, refl, _∙_}
 use mathlib.Core.Bool.{Bool, true, false, _&&_, _||_, cond, and-false}
 use native.Mathlib.Omega.{arith}
 use Rattle.calculus.proofs.Tests.{both}
-use Rattle.eta.specs.Named.{Named, bound, loose, binds, joins, weight, lone}
+use Rattle.eta.specs.Named.{Named, bound, loose, binds, joins, rise, weight, lone}
 use Rattle.eta.specs.Shrinking.{ends-in, applied, Came, again, shrunk}
 use Rattle.eta.proofs.Uses.{may-go, Place, as-place, Alike, alike-same, alike-then, alike-binds, alike-joins}
-use Rattle.eta.proofs.Uses.{alike-lone, alike-place, three-nodes}
+use Rattle.eta.proofs.Uses.{alike-lone, alike-place, lower-place, three-nodes}
 
 module _ (more : ℕ → Bool) where
   -- ONCE A BODY IS DONE: the binder goes, only the limit keeps it, or it is none that may go
@@ -58,6 +58,24 @@ module _ (more : ℕ → Bool) where
   lighter-way (at-place p f w) = omega (arith, lighter-way w, three-nodes p)
   lighter-way (at-binder e w a) = omega (arith, lighter-way w, lighter-after a)
   lighter-way (at-joins w v) = omega (arith, lighter-way w, lighter-way v)
+
+  -- BINDERS keep their levels
+  abbrev Lower : Named → Named → Type 0
+  Lower σ τ = rise σ ≤ rise τ
+
+  lower-after : {k n m : ℕ} {left left′ : Bool} {b σ : Named} → After k n b left m σ left′ → Lower σ (binds k b)
+  unfolding rise
+  lower-after (goes p f) = omega (arith, lower-place p)
+  lower-after (kept p f) = omega arith
+  lower-after (stays e) = omega arith
+
+  lower-way : {n m : ℕ} {τ σ : Named} {left : Bool} → Way n τ m σ left → Lower σ τ
+  unfolding rise
+  lower-way at-bound = omega arith
+  lower-way at-loose = omega arith
+  lower-way (at-place p f w) = omega (arith, lower-way w, lower-place p)
+  lower-way (at-binder e w a) = omega (arith, lower-way w, lower-after a)
+  lower-way (at-joins w v) = omega (arith, lower-way w, lower-way v)
 
   -- AT AN ABSTRACTION, whatever its body is
   shrunk-either : (n k : ℕ) (b : Named)
@@ -120,6 +138,9 @@ module _ (more : ℕ → Bool) where
   -- SO SHRINKING keeps what is named, and takes nodes by steps
   pub lone-shrunk : (k n : ℕ) (b : Named) → lone k (shrunk more n b .1) ≡ lone k b
   lone-shrunk k n b = alike-lone k (alike-way (way n b))
+
+  pub rise-shrunk : (n : ℕ) (τ : Named) → rise (shrunk more n τ .1) ≤ rise τ
+  rise-shrunk n τ = lower-way (way n τ)
 
   pub steps-shrunk : (n : ℕ) (τ : Named) → shrunk more n τ .0 + weight (shrunk more n τ .1) ≤ n + weight τ
   steps-shrunk n τ = lighter-way (way n τ)

@@ -15,7 +15,7 @@ use Rattle.calculus.proofs.Putting.{Puts, puts-then, puts-length}
 use Rattle.nodes.specs.Packing.{kind-in}
 use Rattle.nodes.specs.Store.{word, link}
 use Rattle.nodes.proofs.Coding.{one-put}
-use Rattle.eta.specs.Named.{Named, place, plain}
+use Rattle.eta.specs.Named.{Named, place, plain, rise}
 use Rattle.eta.specs.Scope.{Scoped}
 use Rattle.eta.specs.Store.{Names}
 use Rattle.eta.specs.Writing.{Placed, Writable, Writes}
@@ -64,7 +64,7 @@ module _ {room : List ℕ} {node : ℕ} {places : List ℕ} {depth : ℕ} where
     bound-asks asked =
         let now = asked .placed in
         let among = bound-scoped room node (asked .term) (asked .around) (asked .scoped) kind (asked .names) in (
-          omega (arith, now .rising (link room node) among, now .low, now .long),
+          omega (arith, now .rising (link room node) among, now .low),
           omega (arith, now .placed (link room node) among, asked .deep),
         )
 
@@ -110,23 +110,24 @@ module _ {room : List ℕ} {node : ℕ} {places : List ℕ} {depth : ℕ} where
 
     pub binder-asks : {out : List ℕ} {at : ℕ} → Writable room node out at places depth
         → (at + 1 ≤ length out) × (word room node / 8 < length places) × (depth < most-height)
-    unfolding size plain
+    unfolding size plain rise
     binder-asks asked =
         let v = named-abstraction room node (asked .term) kind (asked .names) in
         let u = body-scoped room node (asked .term) (asked .around) (asked .scoped) kind (asked .names) in
         let e = ap (plain (asked .around)) (v .same) in (
           omega (arith, asked .fits, ap size e),
-          omega (arith, u, asked .placed .long),
+          omega (arith, u, asked .levels, ap rise (v .same)),
           omega (arith, asked .low, height-positive (plain (asked .around) (asked .term))),
         )
 
     pub body-asks : {out : List ℕ} {at : ℕ} → Writable room node out at places depth
         → Writable room (link room node) (set out at 2) (at + 1) (set places (word room node / 8) depth) (depth + 1)
-    unfolding size height plain
+    unfolding size height plain rise
     body-asks {out} {at} asked =
         let v = named-abstraction room node (asked .term) kind (asked .names) in
         let u = body-scoped room node (asked .term) (asked .around) (asked .scoped) kind (asked .names) in
         let e = ap (plain (asked .around)) (v .same) in
+        let inside : v .level < length places = omega (arith, asked .levels, ap rise (v .same)) in
         record {
           term = v .body;
           around = v .level ∷ asked .around;
@@ -135,21 +136,22 @@ module _ {room : List ℕ} {node : ℕ} {places : List ℕ} {depth : ℕ} where
           scoped = u .scoped;
           deep = omega (arith, asked .deep);
           low = omega (arith, asked .low, ap height e);
-          placed = rw (u .level-is) (placed-under (v .level) (u .above) (u .low) (asked .deep) (asked .placed));
+          placed = rw (u .level-is) (placed-under (v .level) (u .above) inside (asked .deep) (asked .placed));
+          levels = omega (arith, asked .levels, ap rise (v .same), length-set places (word room node / 8) depth);
           fits = omega (arith, asked .fits, ap size e, length-set out at 2);
         }
 
-    pub at-binder : {out : List ℕ} {at to : ℕ} {after places′ : List ℕ}
+    pub at-binder : {out : List ℕ} {at to : ℕ} {after places′ : List ℕ} → word room node / 8 < length places
         → Writes room (link room node) (set out at 2) (at + 1) (set places (word room node / 8) depth) (depth + 1) to
         after places′
         → Writes room node out at places depth to after places′
     unfolding encode plain
-    at-binder writes = record {
+    at-binder inside writes = record {
       written = λ t around h sc deep now.
           let v = named-abstraction room node t kind h in
           let u = body-scoped room node t around sc kind h in
           let put = writes .written (v .body) (v .level ∷ around) (v .names) (u .scoped) (omega arith)
-          (rw (u .level-is) (placed-under (v .level) (u .above) (u .low) deep now)) in
+          (rw (u .level-is) (placed-under (v .level) (u .above) (omega (arith, u)) deep now)) in
           rw (v .same) (puts-then (2 ∷ []) (encode (plain (v .level ∷ around) (v .body))) (one-put 2 refl) put);
       kept = λ t around h sc k lt.
           let v = named-abstraction room node t kind h in
@@ -171,7 +173,7 @@ module _ {room : List ℕ} {node : ℕ} {places : List ℕ} {depth : ℕ} where
 
     pub left-asks : {out : List ℕ} {at : ℕ} → Writable room node out at places depth
         → Writable room (link room node % 4294967296) (set out at 3) (at + 1) places depth
-    unfolding size height plain
+    unfolding size height plain rise
     left-asks {out} {at} asked =
         let v = named-application room node (asked .term) kind (asked .names) in
         let (scoped, _) = parts-scoped room node (asked .term) (asked .around) (asked .scoped) kind (asked .names) in
@@ -185,6 +187,7 @@ module _ {room : List ℕ} {node : ℕ} {places : List ℕ} {depth : ℕ} where
           deep = asked .deep;
           low = omega (arith, asked .low, ap height e);
           placed = asked .placed;
+          levels = omega (arith, asked .levels, ap rise (v .same));
           fits = omega (arith, asked .fits, ap size e, length-set out at 3);
         }
 
@@ -192,7 +195,7 @@ module _ {room : List ℕ} {node : ℕ} {places : List ℕ} {depth : ℕ} where
         (first : Writes room (link room node % 4294967296) (set out at 3) (at + 1) places depth next mid places₁) where
       pub right-asks : Writable room node out at places depth
           → Writable room (link room node / 4294967296) mid next places₁ depth
-      unfolding size height plain
+      unfolding size height plain rise
       right-asks asked =
           let around = asked .around in
           let v = named-application room node (asked .term) kind (asked .names) in
@@ -210,6 +213,7 @@ module _ {room : List ℕ} {node : ℕ} {places : List ℕ} {depth : ℕ} where
             low = omega (arith, asked .low, ap height e);
             placed = placed-kept (first .as-long) (first .kept (v .left) around (v .left-names) (scoped .0))
                 (asked .placed);
+            levels = omega (arith, asked .levels, ap rise (v .same), first .as-long);
             fits = omega (
               arith,
               asked .fits,

@@ -6,3 +6,4 @@ pub mod Store
 pub mod Naming
 pub mod Shrinks
 pub mod Writing
+pub mod Levelled

@@ -1,5 +1,5 @@
 -- Terms whose variables name their binders, so that nothing moves when a binder goes.
-use Prim.Native.Nat.{ℕ, zero, suc, _+_, _-_}
+use Prim.Native.Nat.{ℕ, zero, suc, _+_, _-_, max}
 use mathlib.Core.Bool.{Bool, false, not, _&&_, _||_, cond}
 use mathlib.Core.List.{List, [], _∷_}
 use lib.Dec.{leb, eqb}
@@ -37,6 +37,13 @@ plain around (joins l r) = app (plain around l) (plain around r)
 unfoldable pub levels : ℕ → List ℕ
 levels zero = []
 levels (suc d) = d ∷ levels d
+
+-- above the levels of all its binders
+unfoldable pub rise : Named → ℕ
+rise (bound k) = 0
+rise (loose j) = 0
+rise (binds k b) = max (suc k) (rise b)
+rise (joins l r) = max (rise l) (rise r)
 
 -- how many nodes it has
 unfoldable pub weight : Named → ℕ

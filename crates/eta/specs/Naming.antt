@@ -19,7 +19,7 @@ pub record Counts (before after : List ℕ) (depth : ℕ) (t : Named) : Type 0 w
 
 -- no count can grow too great
 pub record Countable (counts : List ℕ) (depth more : ℕ) : Type 0 where
-  pub long : length counts ≡ most-height
+  pub long : depth ≤ length counts
   pub few : (k : ℕ) → k < depth → getD counts k 0 + more ≤ 4 * most-nodes
 
 -- some term stands at an offset, and there is room for its nodes and its counts
@@ -30,6 +30,7 @@ pub record Nameable (s : List ℕ) (at : ℕ) (room : List ℕ) (used : ℕ) (co
   pub fits : 2 * (used + nodes term) ≤ length room
   pub few : used + nodes term ≤ 2 * most-nodes
   pub low : depth + height term ≤ most-height
+  pub deep : depth + height term ≤ length counts
   pub countable : Countable counts depth (nodes term)
 
 -- whatever stands there is the last node made, by its names, and the nodes before are as they were

@@ -8,15 +8,14 @@ use Rattle.calculus.specs.Bounds.{most-height}
 use Rattle.calculus.specs.Bytes.{encode}
 use Rattle.calculus.proofs.Sizes.{size}
 use Rattle.calculus.proofs.Putting.{Puts}
-use Rattle.eta.specs.Named.{Named, place, plain}
+use Rattle.eta.specs.Named.{Named, place, plain, rise}
 use Rattle.eta.specs.Scope.{Among, top, Scoped}
 use Rattle.eta.specs.Store.{Names}
 
 -- at the level of each binder around stands how many binders are around it; the innermost has the greatest level
 pub record Placed (places around : List ℕ) : Type 0 where
-  pub long : length places ≡ most-height
   pub rising : (k : ℕ) → Among k around → k < top around
-  pub low : top around ≤ most-height
+  pub low : top around ≤ length places
   pub placed : (k : ℕ) → Among k around → getD places k 0 + place k around ≡ length around
 
 -- a node that is some named term among binders, whose bytes fit the output
@@ -29,6 +28,7 @@ pub record Writable (room : List ℕ) (node : ℕ) (out : List ℕ) (at : ℕ) (
   pub deep : length around ≡ depth
   pub low : depth + height (plain around term) ≤ most-height
   pub placed : Placed places around
+  pub levels : rise term ≤ length places
   pub fits : at + size (plain around term) ≤ length out
 
 -- whatever it is, among whatever binders, its bytes are put there, and what stood for the binders around is kept

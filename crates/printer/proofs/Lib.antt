@@ -4,4 +4,6 @@ mod PartTexts
 mod Naming
 mod Walking
 mod Printing
+mod TextRoom
+mod Gauged
 pub mod Unique

@@ -30,7 +30,7 @@ abbrev pub closing : Bool → List ℕ
 closing b = cond b (41 ∷ []) []
 
 module _ (w : Style) (d : ℕ) where
-  text-of-var : (part : Part) (i : ℕ) → part-text w d part (var i) ≡ variable-of w d i
+  pub text-of-var : (part : Part) (i : ℕ) → part-text w d part (var i) ≡ variable-of w d i
   unfolding part-text
   text-of-var Whole i = bytes-shown (shown-variable-of (notation-of (w .notation)) (w .most) d i)
   text-of-var Left i = bytes-shown (shown-variable-of (notation-of (w .notation)) (w .most) d i)
@@ -42,7 +42,7 @@ module _ (w : Style) (d : ℕ) where
   grouped-bytes xs = ap (λ b. 40 ∷ b) (bytes-append xs (41 ∷ []))
 
   -- parentheses, where there are any, around the bytes of the whole
-  lam-part : (part : Part) (b : Term)
+  pub lam-part : (part : Part) (b : Term)
       → part-text w d part (lam b)
       ≡ opening (groups-lam part) ++ (part-text w d Whole (lam b) ++ closing (groups-lam part))
   unfolding part-text
@@ -50,7 +50,7 @@ module _ (w : Style) (d : ℕ) where
   lam-part Left b = grouped-bytes (written (layout-of w) d (lam b))
   lam-part Right b = grouped-bytes (written (layout-of w) d (lam b))
 
-  app-part : (part : Part) (l r : Term)
+  pub app-part : (part : Part) (l r : Term)
       → part-text w d part (app l r)
       ≡ opening (groups-app part) ++ (part-text w d Whole (app l r) ++ closing (groups-app part))
   unfolding part-text
@@ -58,11 +58,11 @@ module _ (w : Style) (d : ℕ) where
   app-part Left l r = sym (append-nil _)
   app-part Right l r = grouped-bytes (written (layout-of w) d (app l r))
 
-  whole-lam : (b : Term) → part-text w d Whole (lam b) ≡ binder-of w d ++ part-text w (d + 1) Whole b
+  pub whole-lam : (b : Term) → part-text w d Whole (lam b) ≡ binder-of w d ++ part-text w (d + 1) Whole b
   unfolding part-text binder-of
   whole-lam b = rw add-one (bytes-append (layout-of w .binder d) (written (layout-of w) (suc d) b))
 
-  whole-app : (l r : Term)
+  pub whole-app : (l r : Term)
       → part-text w d Whole (app l r) ≡ part-text w d Left l ++ (gap-of w ++ part-text w d Right r)
   unfolding part-text
   whole-app l r =

@@ -1,5 +1,5 @@
 -- From the walk to what `print` answers: the text of the whole term, whether it fits, and the slice afterwards.
-use Prim.Native.Nat.{ℕ, _+_, _*_, _≤_, _<_}
+use Prim.Native.Nat.{ℕ, _*_, _≤_, _<_}
 use mathlib.Core.Path.{_≡_, refl, sym, ap, ap₂, _∙_}
 use mathlib.Core.Bool.{Bool, true, false, cond}
 use mathlib.Core.List.{List}
@@ -8,12 +8,12 @@ use native.Mathlib.Nat.{zero-add}
 use lib.Dec.{leb}
 use lib.ListN.{length}
 use borrow.Author.Tests.{leb-true, le-leb, lt-leb}
-use Rattle.calculus.specs.Term.{Term, nodes}
+use Rattle.calculus.specs.Term.{Term}
 use Rattle.calculus.specs.Bounds.{most-nodes, most-height}
 use Rattle.calculus.specs.Refusal.{given}
 use Rattle.calculus.specs.Queries.{max-depth}
 use Rattle.calculus.specs.Writing.{characters-written, write-text}
-use Rattle.calculus.specs.Outcomes.{stored, print-of}
+use Rattle.calculus.specs.Outcomes.{stored, checked, print-of}
 use Rattle.calculus.proofs.Coding.{AllBytes}
 use Rattle.calculus.proofs.Judged.{checked-given}
 use Rattle.calculus.proofs.Putting.{laid}
@@ -32,6 +32,9 @@ use Rattle.term.proofs.Checking.{decoded-stands, check-whole, check-refused}
 use Rattle.printer.specs.Parts.{part-text, Writable, Writes}
 use Rattle.printer.specs.Answers.{printed-told}
 use Rattle.printer.specs.Printing.{StyleOf, Printable, Measures, Fitting, Prints}
+use Rattle.printer.specs.Gauges.{style-by, GaugedWhole, GaugesWhole}
+use Rattle.printer.specs.declared.gauging.Gauge.{Gauge}
+use Rattle.printer.specs.declared.gauging.Gauge.the-variants as gauge
 use Rattle.printer.specs.declared.pieces.Style.{Style}
 use Rattle.printer.specs.declared.Part.the-variants.{Whole}
 use Rattle.printer.specs.declared.Reached.{Reached}
@@ -45,11 +48,11 @@ abbrev text-in : Style → Term → List ℕ
 text-in w t = write-text (notation-of (w .notation)) t
 
 -- which the walk over the whole term writes, where the style is the term's
-whole-text : (w : Style) (t : Term) → w .most ≡ max-depth t → part-text w 0 Whole t ≡ text-in w t
+pub whole-text : (w : Style) (t : Term) → w .most ≡ max-depth t → part-text w 0 Whole t ≡ text-in w t
 unfolding part-text write-text characters-written
 whole-text w t e = rw e
 
-module _ {w : Style} {count : ℕ} {s : List ℕ} (p : Printable w count s) where
+module _ {w : Style} {plenty : ℕ} {s : List ℕ} (p : Printable w plenty s) where
   pub whole-writable : Writable w s 0 0 Whole 0 most-height
   whole-writable =
       let t = p .term in
@@ -62,28 +65,23 @@ module _ {w : Style} {count : ℕ} {s : List ℕ} (p : Printable w count s) wher
         countable = omega (arith, text, text-length (notation-of (w .notation)) t, p .few);
       }
 
-  pub few-nodes : count ≤ most-nodes
-  few-nodes = omega (arith, p .few, p .style .many)
-
 -- WHETHER IT FITS
-module _ (w : Style) (count : ℕ) (s : List ℕ) (room : ℕ) where
-  pub plenty : count * 20 ≤ room → Fitting w count s room Fits
-  plenty h = record {
-    fitting = λ t st e.
-        let short = text-length (notation-of (w .notation)) t in
-        rw (le-leb (length (text-in w t)) room (omega (arith, short, e .many)));
+module _ (w : Style) (plenty : ℕ) (s : List ℕ) (room : ℕ) where
+  pub spacious : plenty ≤ room → Fitting w plenty s room Fits
+  spacious h = record {
+    fitting = λ t st e. rw (le-leb (length (text-in w t)) room (omega (arith, e .short)));
   }
 
   module _ {needed : ℕ} (measured : Measures w s needed) where
-    text-measured : (t : Term) → Stands s 0 t → StyleOf w count t → needed ≡ length (text-in w t)
+    text-measured : (t : Term) → Stands s 0 t → StyleOf w plenty t → needed ≡ length (text-in w t)
     text-measured t st e = measured .measured t st ∙ ap length (whole-text w t (e .deep))
 
-    pub enough : needed ≤ room → Fitting w count s room Fits
+    pub enough : needed ≤ room → Fitting w plenty s room Fits
     enough h = record {
       fitting = λ t st e. rw (le-leb (length (text-in w t)) room (omega (arith, text-measured t st e)));
     }
 
-    pub too-long : room < needed → Fitting w count s room (Needs needed)
+    pub too-long : room < needed → Fitting w plenty s room (Needs needed)
     too-long h = record {
       fitting = λ t st e.
           let same = text-measured t st e in
@@ -101,8 +99,8 @@ needs-so true length e = let never : _≡_ {A = ℕ} 0 1 = cc in absurd (omega a
 needs-so false length e = (refl, cc)
 
 -- WHAT A WHOLE TERM COMES TO: 13, or the text
-module _ {w : Style} {count : ℕ} {s out : List ℕ} {fit : Fit} (fits : Fitting w count s (length out) fit) where
-  pub refuses-short : {needed : ℕ} → fit ≡ Needs needed → Prints w count s out (Refused (OutputTooShort needed)) out
+module _ {w : Style} {plenty : ℕ} {s out : List ℕ} {fit : Fit} (fits : Fitting w plenty s (length out) fit) where
+  pub refuses-short : {needed : ℕ} → fit ≡ Needs needed → Prints w plenty s out (Refused (OutputTooShort needed)) out
   unfolding printed-told
   refuses-short k = record {
     printed = λ t st e.
@@ -112,7 +110,7 @@ module _ {w : Style} {count : ℕ} {s out : List ℕ} {fit : Fit} (fits : Fittin
   }
 
   pub prints : {to : Reached} {after : List ℕ} → fit ≡ Fits → Writes w s 0 0 Whole out 0 to after
-      → Prints w count s out (Length (to .to)) after
+      → Prints w plenty s out (Length (to .to)) after
   unfolding printed-told
   prints k write = record {
     printed = λ t st e.
@@ -124,37 +122,66 @@ module _ {w : Style} {count : ℕ} {s out : List ℕ} {fit : Fit} (fits : Fittin
         rw within (ap₂ (λ a b. (given a, b)) (put .reached ∙ zero-add long) after-so);
   }
 
--- WHAT PRINT ANSWERS
+-- WHAT PRINT ANSWERS: the text of a term that is let through, by whoever found its style
+module _ {w : Style} {plenty : ℕ} (s : List ℕ) {t : Term} (passes : checked most-nodes s ≡ given t)
+    (bytes : AllBytes s) (style : StyleOf w plenty t) where
+  pub passed-printable : Printable w plenty s
+  passed-printable =
+      let (decoded, low, few) = checked-given s passes in
+      record { term = t; stands = decoded-stands s bytes decoded; style = style; low = low; few = few }
+
+  pub printed-passed : {out : List ℕ} {p : Printed} {after : List ℕ} → Prints w plenty s out p after
+      → (printed-told p, after) ≡ print-of (notation-of (w .notation)) s out
+  unfolding print-of
+  printed-passed print = rw passes (print .printed t (decoded-stands s bytes (checked-given s passes .0)) style)
+
+-- after a check
 module _ (n : Notation) (s : List ℕ) {r : Checked} (says : check-told r ≡ check-of most-nodes s) where
   pub refuses-input : (out : List ℕ) {why : Refusal} → r ≡ checks.Refused why
       → (printed-told (Refused why), out) ≡ print-of (notation-of n) s out
   unfolding print-of printed-told
   refuses-input out e = rw (check-refused most-nodes s says e)
 
-  module _ (bytes : AllBytes s) {f : Facts} (e : r ≡ checks.Whole f) where
-    abbrev style : Style
-    style = record { notation = n; most = f .depth }
-
-    facts-style : {t : Term} → f ≡ facts-of 0 t → StyleOf style (f .nodes) t
+  module _ {f : Facts} (e : r ≡ checks.Whole f) where
+    pub few-nodes : f .nodes ≤ most-nodes
     unfolding facts-of
-    facts-style k = record { deep = ap (λ f. f .depth) k; many = ap (λ f. f .nodes) k }
-
-    pub whole-printable : Printable style (f .nodes) s
-    whole-printable =
+    few-nodes =
         let t = check-whole most-nodes s says e in
-        let (decoded, low, few) = checked-given s (t .let-through) in
-        record {
-          term = t .term;
-          stands = decoded-stands s bytes decoded;
-          style = facts-style (t .same);
-          low = low;
-          few = few;
-        }
+        omega (arith, ap (λ f. f .nodes) (t .same), checked-given s (t .let-through) .2)
 
-    pub printed-whole : {out : List ℕ} {p : Printed} {after : List ℕ} → Prints style (f .nodes) s out p after
-        → (printed-told p, after) ≡ print-of (notation-of n) s out
-    unfolding print-of
-    printed-whole print =
-        let t = check-whole most-nodes s says e in
-        let st = decoded-stands s bytes (checked-given s (t .let-through) .0) in
-        rw (t .let-through) (print .printed (t .term) st (facts-style (t .same)))
+    facts-style : {t : Term} → f ≡ facts-of 0 t → StyleOf (style-by n (f .depth)) (f .nodes * 20) t
+    unfolding facts-of
+    facts-style {t} k = record {
+      deep = ap (λ f. f .depth) k;
+      short = omega (arith, text-length (notation-of n) t, ap (λ f. f .nodes) k);
+    }
+
+    module _ (bytes : AllBytes s) where
+      pub checked-printable : Printable (style-by n (f .depth)) (f .nodes * 20) s
+      checked-printable =
+          let t = check-whole most-nodes s says e in
+          passed-printable s (t .let-through) bytes (facts-style (t .same))
+
+      pub printed-checked : {out : List ℕ} {p : Printed} {after : List ℕ}
+          → Prints (style-by n (f .depth)) (f .nodes * 20) s out p after
+          → (printed-told p, after) ≡ print-of (notation-of n) s out
+      printed-checked print =
+          let t = check-whole most-nodes s says e in
+          printed-passed s (t .let-through) bytes (facts-style (t .same)) print
+
+-- after the walk that knows a term
+module _ (n : Notation) (s : List ℕ) {r : Gauge} (says : GaugesWhole n s r) {most plenty : ℕ}
+    (e : r ≡ gauge.Term most plenty) (bytes : AllBytes s) where
+  gauged-style : (w : GaugedWhole n s most plenty) → StyleOf (style-by n most) plenty (w .term)
+  gauged-style w = record { deep = w .deep; short = w .short }
+
+  pub gauged-printable : Printable (style-by n most) plenty s
+  gauged-printable =
+      let w = says .whole e in
+      passed-printable s (w .passes) bytes (gauged-style w)
+
+  pub printed-gauged : {out : List ℕ} {p : Printed} {after : List ℕ} → Prints (style-by n most) plenty s out p after
+      → (printed-told p, after) ≡ print-of (notation-of n) s out
+  printed-gauged print =
+      let w = says .whole e in
+      printed-passed s (w .passes) bytes (gauged-style w) print

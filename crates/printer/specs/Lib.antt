@@ -3,3 +3,4 @@ pub mod Pieces
 pub mod Parts
 pub mod Answers
 pub mod Printing
+pub mod Gauges

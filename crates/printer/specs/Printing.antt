@@ -20,16 +20,16 @@ use Rattle.printer.specs.declared.Fit.{Fit}
 use Rattle.printer.specs.declared.Fit.the-variants.{Fits, Needs}
 use Rattle.printer.specs.declared.Printed.{Printed}
 
--- the style and the count are those of a term: its max_depth, its nodes
-pub record StyleOf (w : Style) (count : ℕ) (t : Term) : Type 0 where
+-- the style is that of a term, by its max_depth, and there is plenty of room for its text
+pub record StyleOf (w : Style) (plenty : ℕ) (t : Term) : Type 0 where
   pub deep : w .most ≡ max-depth t
-  pub many : count ≡ nodes t
+  pub short : length (write-text (notation-of (w .notation)) t) ≤ plenty
 
--- the bytes are those of one term within the bounds, and the style and the count are the term's
-pub record Printable (w : Style) (count : ℕ) (s : List ℕ) : Type 0 where
+-- the bytes are those of one term within the bounds, and the style and the room are the term's
+pub record Printable (w : Style) (plenty : ℕ) (s : List ℕ) : Type 0 where
   pub term : Term
   pub stands : Stands s 0 term
-  pub style : StyleOf w count term
+  pub style : StyleOf w plenty term
   pub low : height term ≤ most-height
   pub few : nodes term ≤ most-nodes
 
@@ -41,11 +41,11 @@ pub record Measures (w : Style) (s : List ℕ) (r : ℕ) : Type 0 where
 abbrev pub fit-of : ℕ → List ℕ → Fit
 fit-of room text = cond (leb (length text) room) Fits (Needs (length text))
 
-pub record Fitting (w : Style) (count : ℕ) (s : List ℕ) (room : ℕ) (r : Fit) : Type 0 where
-  pub fitting : (t : Term) → Stands s 0 t → StyleOf w count t
+pub record Fitting (w : Style) (plenty : ℕ) (s : List ℕ) (room : ℕ) (r : Fit) : Type 0 where
+  pub fitting : (t : Term) → Stands s 0 t → StyleOf w plenty t
       → r ≡ fit-of room (write-text (notation-of (w .notation)) t)
 
 -- what is answered and left for whatever term the bytes are: 13, or the text
-pub record Prints (w : Style) (count : ℕ) (s before : List ℕ) (r : Printed) (after : List ℕ) : Type 0 where
-  pub printed : (t : Term) → Stands s 0 t → StyleOf w count t
+pub record Prints (w : Style) (plenty : ℕ) (s before : List ℕ) (r : Printed) (after : List ℕ) : Type 0 where
+  pub printed : (t : Term) → Stands s 0 t → StyleOf w plenty t
       → (printed-told r, after) ≡ stored (if-it-fits before (write-text (notation-of (w .notation)) t)) before

@@ -1,9 +1,11 @@
 // Both printers: the De Bruijn and the classic text of any coded term, written into a lent slice.
+mod gauging;
 mod pieces;
 pub mod writer;
 
 use calculus::MOST_HEIGHT;
 use calculus::MOST_NODES;
+use gauging::Gauge;
 use pieces::Style;
 use term::Checked;
 use term::Head;
@@ -114,13 +116,12 @@ enum Fit {
     Needs(usize),
 }
 
-// A text has at most 20 bytes a node: where there is as much room it need not be measured.
-fn judge_length(style: Style, nodes: u64, s: &[u8], room: usize) -> Fit
-    requires { ⌜ Printable style nodes (now s) ⌝ }
-    ensures { λ r. ⌜ Fitting style nodes (now (s .entry)) room r ⌝ }
+// Where there is plenty of room the text need not be measured.
+fn judge_length(style: Style, plenty: usize, s: &[u8], room: usize) -> Fit
+    requires { ⌜ Printable style plenty (now s) ⌝ }
+    ensures { λ r. ⌜ Fitting style plenty (now (s .entry)) room r ⌝ }
 {
-    let plenty = nodes * 20;
-    if plenty as usize <= room {
+    if plenty <= room {
         return Fit::Fits;
     }
     let needed = text_length(style, s);
@@ -137,11 +138,12 @@ pub enum Printed {
     Refused(Refusal),
 }
 
-fn print_whole(style: Style, nodes: u64, s: &[u8], out: &mut [u8]) -> Printed
-    requires { ⌜ Printable style nodes (now s) ⌝ }
-    ensures { λ r. ⌜ Prints style nodes (now (s .entry)) (now (out .entry)) r (now (out .exit)) ⌝ }
+// A whole term, for whose text so much room is plenty.
+fn print_whole(style: Style, plenty: usize, s: &[u8], out: &mut [u8]) -> Printed
+    requires { ⌜ Printable style plenty (now s) ⌝ }
+    ensures { λ r. ⌜ Prints style plenty (now (s .entry)) (now (out .entry)) r (now (out .exit)) ⌝ }
 {
-    match judge_length(style, nodes, s, out.len()) {
+    match judge_length(style, plenty, s, out.len()) {
         Fit::Needs(length) => Printed::Refused(Refusal::OutputTooShort(length)),
         Fit::Fits => {
             let text = write_part(out, 0, style, s, 0, 0, Part::Whole, MOST_HEIGHT);
@@ -150,8 +152,8 @@ fn print_whole(style: Style, nodes: u64, s: &[u8], out: &mut [u8]) -> Printed
     }
 }
 
-// The input's refusals, then 13.
-pub fn print(notation: Notation, s: &[u8], out: &mut [u8]) -> Printed
+// The input's refusals, then 13. A text has at most 20 bytes a node.
+fn print_checked(notation: Notation, s: &[u8], out: &mut [u8]) -> Printed
     ensures { λ r. ⌜ (printed-told r, now (out .exit))
         ≡ print-of (notation-of notation) (now (s .entry)) (now (out .entry)) ⌝ }
 {
@@ -162,7 +164,18 @@ pub fn print(notation: Notation, s: &[u8], out: &mut [u8]) -> Printed
                 notation,
                 most: facts.depth,
             };
-            print_whole(style, facts.nodes, s, out)
+            print_whole(style, (facts.nodes * 20) as usize, s, out)
         }
+    }
+}
+
+// One walk knows a whole term, and only where it does not is the input checked for the refusal that holds.
+pub fn print(notation: Notation, s: &[u8], out: &mut [u8]) -> Printed
+    ensures { λ r. ⌜ (printed-told r, now (out .exit))
+        ≡ print-of (notation-of notation) (now (s .entry)) (now (out .entry)) ⌝ }
+{
+    match gauging::gauge_whole(notation, s) {
+        Gauge::Term { most, plenty } => print_whole(Style { notation, most }, plenty, s, out),
+        Gauge::Unknown => print_checked(notation, s, out),
     }
 }

@@ -24,7 +24,7 @@ fn put_figure(out: &mut [u8], to: usize, digit: u64) -> usize
 }
 
 // How many hex digits the highest set bit needs.
-fn figures_needed(index: u64) -> usize
+pub(crate) fn figures_needed(index: u64) -> usize
     requires { ⌜ 0 < index ⌝ }
     ensures { λ r. ⌜ (r ≤ 16) × (figures r index ≡ numeral 16 16 index) ⌝ }
 {

@@ -1,16 +1,12 @@
 -- `printer::judge_length` meets its contract: there is plenty of room, enough, or too little.
-use native.Mathlib.Omega.{arith}
-use Rattle.printer.proofs.Printing.{whole-writable, few-nodes, plenty, enough, too-long}
+use Rattle.printer.proofs.Printing.{whole-writable, spacious, enough, too-long}
 use Rattle.printer.proofs.judge_length.Statement.{statement}
 use Rattle.printer.proofs.judge_length.Tie as tie
-
-mul-plenty : tie.Need-mul-plenty
-mul-plenty c = omega (arith, few-nodes (c .before .pre))
 
 returns : tie.Need-returns
 returns c =
     let start = c .before .before in
-    plenty (start .args .style) (start .args .nodes) (start .args .s .now) (start .args .room) (c .if1 .taken)
+    spacious (start .args .style) (start .args .plenty) (start .args .s .now) (start .args .room) (c .if1 .taken)
 
 text-length-requires : tie.Need-text-length-requires
 text-length-requires c κs =
@@ -20,20 +16,19 @@ text-length-requires c κs =
 returns-2 : tie.Need-returns-2
 returns-2 c =
     let start = c .before .before .before .before in
-    enough (start .args .style) (start .args .nodes) (start .args .s .now) (start .args .room)
+    enough (start .args .style) (start .args .plenty) (start .args .s .now) (start .args .room)
     (c .before .text-length .ensures) (c .if2 .taken)
 
 returns-3 : tie.Need-returns-3
 returns-3 c =
     let start = c .before .before .before .before in
-    too-long (start .args .style) (start .args .nodes) (start .args .s .now) (start .args .room)
+    too-long (start .args .style) (start .args .plenty) (start .args .s .now) (start .args .room)
     (c .before .text-length .ensures) (c .if2 .left)
 
 pub judge-length-spec : {M : Type 1} → statement M
 judge-length-spec =
     tie.close
     (tie.spec
-    mul-plenty
     returns
     text-length-requires
     returns-2

@@ -1,7 +1,7 @@
--- `printer::print` meets its contract: the input's refusals, then what the whole term comes to.
+-- `printer::print` meets its contract: a term that one walk knows is printed, and all else is checked.
 use borrow.Author.Needs.{needs}
 use Rattle.calculus.proofs.Coding.{AllBytes}
-use Rattle.printer.proofs.Printing.{refuses-input, whole-printable, printed-whole}
+use Rattle.printer.proofs.Printing.{gauged-printable, printed-gauged}
 use Rattle.printer.proofs.print.Statement.{statement}
 use Rattle.printer.proofs.print.Tie as tie
 
@@ -10,31 +10,22 @@ bytes c i = c .shared-slice-known .given i .fits
 
 print-whole-requires : tie.Need-print-whole-requires
 print-whole-requires c κs =
-    let at-facts = c .before .before in
-    let at-check = at-facts .before .before in
-    let at-shared-slice-known = at-check .before .before in
-    let start = at-shared-slice-known .before in
-    let all = bytes at-shared-slice-known in
-    whole-printable (start .args .notation) (start .args .s .now) (at-check .check .ensures) all
-    (at-facts .facts .given .1)
+    let at-most = c .before .before in
+    let at-gauge-whole = at-most .before .before in
+    let at-bytes = at-gauge-whole .before .before in
+    let start = at-bytes .before in
+    gauged-printable (start .args .notation) (start .args .s .now) (at-gauge-whole .gauge-whole .ensures)
+    (at-most .most .given .1) (bytes at-bytes)
 
 returns : tie.Need-returns
 returns c =
-    let at-check = c .before .before .before in
-    let start = at-check .before .before .before in
-    refuses-input (start .args .notation) (start .args .s .now) (at-check .check .ensures) (start .args .out .now)
-    (c .before .why .given .1)
-
-returns-2 : tie.Need-returns-2
-returns-2 c =
     let at-print-whole = c .before .before in
-    let at-facts = at-print-whole .before .before .before in
-    let at-check = at-facts .before .before in
-    let at-shared-slice-known = at-check .before .before in
-    let start = at-shared-slice-known .before in
-    let all = bytes at-shared-slice-known in
-    printed-whole (start .args .notation) (start .args .s .now) (at-check .check .ensures) all
-    (at-facts .facts .given .1) (at-print-whole .print-whole .ensures)
+    let at-most = at-print-whole .before .before .before in
+    let at-gauge-whole = at-most .before .before in
+    let at-bytes = at-gauge-whole .before .before in
+    let start = at-bytes .before in
+    printed-gauged (start .args .notation) (start .args .s .now) (at-gauge-whole .gauge-whole .ensures)
+    (at-most .most .given .1) (bytes at-bytes) (at-print-whole .print-whole .ensures)
 
 pub print-spec : {M : Type 1} → statement M
 print-spec =
@@ -42,8 +33,10 @@ print-spec =
     (tie.spec
     (λ c κs. search needs)
     (λ c. search needs)
-    (λ c. search needs)
     print-whole-requires
+    (λ c. search needs)
+    (λ c κs. search needs)
+    (λ c. search needs)
     returns
     (λ c. search needs)
-    returns-2)
+    (λ c. search needs))

@@ -10,7 +10,7 @@ use Rattle.term.specs.Heads.{head-in}
 use Rattle.term.specs.declared.Head.the-variants.{Variable, Abstraction, Application}
 use Rattle.nodes.proofs.Stored.{stored}
 use Rattle.eta.proofs.Loaded.{some-made, counts-length, variable-inside, variable-asks, at-variable, at-nothing}
-use Rattle.eta.proofs.Loaded.{depth-low, body-asks, binder-fits, at-abstraction}
+use Rattle.eta.proofs.Loaded.{depth-low, depth-inside, body-asks, binder-fits, at-abstraction}
 use Rattle.eta.proofs.Loaded.{left-asks, right-asks, parts-made, application-fits, at-application}
 use Rattle.eta.proofs.naming.load.Reads as own
 use Rattle.eta.proofs.naming.load.Kinds as kinds
@@ -92,7 +92,7 @@ module _ (t : ℕ) where
   slice-write-counts : lts.Need-slice-write-counts (claims t) (given t) own.Post
   slice-write-counts c =
       let start = c .before .before .before .before .before .before in
-      omega (arith, depth-low (start .pre .1), start .pre .1 .countable .long)
+      depth-inside (start .pre .1)
 
   add-load : lts.Need-add-load (claims t) (given t) own.Post
   add-load c =
@@ -126,7 +126,7 @@ module _ (t : ℕ) where
       let start = at-enum-told .before .before .before .before .before .before in
       let asks = body-asks (lam-head at-enum-told) (start .pre .1) in
       let long = counts-length asks (at-load .load .ensures) in
-      omega (arith, depth-low (start .pre .1), asks .countable .long)
+      omega (arith, depth-inside (start .pre .1), long)
 
   binder-word-requires : lts.Need-binder-word-requires (claims t) (given t) own.Post
   binder-word-requires c κs =

@@ -175,7 +175,8 @@ module _ (t : ℕ) where
   returns-4 : lts.Need-returns-4 (claims t) (given t) own.Post
   returns-4 c =
       let at-write = c .before .before .before .before in
-      at-binder (binder-here (at-write .before .before .before)) (at-write .write .ensures)
+      let at-if4 = at-write .before .before .before in
+      at-binder (binder-here at-if4) (binder-facts at-if4 .1) (at-write .write .ensures)
 
   same-length-4 : lts.Need-same-length-4 (claims t) (given t) own.Post
   same-length-4 c =
