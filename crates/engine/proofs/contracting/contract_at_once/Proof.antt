@@ -1,7 +1,5 @@
 -- `engine::contracting::contract_at_once` meets its contract: each return by a law of `AtOnce`.
-use Prim.Native.Nat.{_+_, _*_, _≤_}
 use native.Mathlib.Omega.{arith}
-use lib.ListN.{length}
 use borrow.Author.Needs.{needs}
 use Rattle.engine.proofs.Told.{told-is}
 use Rattle.engine.proofs.Contractions.{put-asks, made-low}

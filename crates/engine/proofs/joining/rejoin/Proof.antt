@@ -1,5 +1,4 @@
 -- `engine::joining::rejoin` meets its contract: the node as it was, or a new one, by the laws of `Joins`.
-use native.Mathlib.Omega.{arith}
 use borrow.Author.Needs.{needs}
 use Rattle.engine.specs.States.{lent, renoded}
 use Rattle.engine.proofs.Joins.{parts-low, parts-unchanged, application-asks, parts-changed}

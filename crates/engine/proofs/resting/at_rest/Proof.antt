@@ -1,5 +1,4 @@
 -- `at_rest` meets its contract: each first number that is told to be at rest is.
-use mathlib.Core.Path.{sym, _∙_}
 use mathlib.Core.Bool.{false≢true}
 use borrow.Author.Needs.{needs}
 use Rattle.engine.proofs.Runs.{turned-about}

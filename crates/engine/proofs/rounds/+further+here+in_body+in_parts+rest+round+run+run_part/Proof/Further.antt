@@ -8,7 +8,7 @@ use Rattle.engine.specs.States.{State, standing, told}
 use Rattle.engine.proofs.Runs.{turned-about, stays-normal}
 use Rattle.engine.proofs.Told.{told-is, parts-at, resting-lent}
 use Rattle.engine.proofs.AtRest.{node-low}
-use Rattle.engine.proofs.Places.{FurtherRun, rejoined, forked, as-application, as-it-was}
+use Rattle.engine.proofs.Places.{FurtherRun, rejoined, as-application, as-it-was}
 use Rattle.engine.proofs.Places.{rest-at-once, argument-asks, argument-halts, rest-after}
 use Rattle.engine.proofs.rounds.further.Reads as own
 use Rattle.engine.proofs.rounds.+further+here+in_body+in_parts+rest+round+run+run_part.Lts-further as lts
