@@ -12,6 +12,7 @@ use crate::timing::{Buffers, MOST_NODES};
 use std::{env, fs};
 
 const PAGE: &str = "docs/BENCHMARKS.md";
+const ROWS: &str = "docs/ROWS.md";
 const PICTURE: &str = "docs/ratios.svg";
 
 /// The cap of a row is so many times the least one, unless TIMES in the environment says otherwise.
@@ -82,6 +83,18 @@ fn ratios(measured: &[Measured]) -> String {
     tables.into_iter().flatten().collect::<Vec<_>>().join("\n")
 }
 
+/// The page of all rows, with their times.
+fn rows_page(measured: &[Measured]) -> String {
+    let lines: Vec<String> = measured.iter().map(Measured::line).collect();
+    let said =
+        "All rows of the benchmark as it was last run: [BENCHMARKS](BENCHMARKS.md) says how.";
+    format!(
+        "# Rows\n\n{said}\n\n{}\n{}\n",
+        headed(ROW_HEADS),
+        lines.join("\n")
+    )
+}
+
 /// Puts the text between the two marks of the page, if it has them.
 fn put_into_page(text: &str) {
     let path = in_repository(PAGE);
@@ -115,6 +128,7 @@ pub fn run(words: &[String]) -> bool {
     if words.is_empty() {
         parts.insert(0, ratios(&measured));
         put_into_page(&parts.join("\n"));
+        fs::write(in_repository(ROWS), rows_page(&measured)).expect("the rows can be written");
         let drawn = picture::draw(&measured);
         fs::write(in_repository(PICTURE), drawn).expect("the picture can be written");
     }
