@@ -226,11 +226,11 @@ fn further(
         (told q (now (used .exit)) (now (budget .exit)) (now (spare .exit))) (now (room .exit))) ⌝ }
 {
     let w = room[2 * whole];
+    if at_rest(order, w) {
+        return nodes::pair(whole, RESTED);
+    }
     if nodes::kind_of(w) != 3 {
         return round(room, used, budget, spare, order, whole, depth);
-    }
-    if nodes::normal_of(w) == 1 {
-        return nodes::pair(whole, RESTED);
     }
     let x = room[2 * whole + 1];
     let left = nodes::left_of(x);

@@ -19,7 +19,7 @@ use Rattle.nodes.proofs.Holding.{held-once, is-variable}
 use Rattle.substitution.proofs.Copying.{Copied, shared, one-fits, new-variable, left-kept}
 use Rattle.substitution.proofs.Walking.{Walks, Copyable, held-body, body-can, lam-asks, lam-copied}
 use Rattle.substitution.proofs.Walking.{parts, left-can, right-can, app-asks, app-copied}
-use Rattle.substitution.proofs.Raised.{raisable, raises-copied}
+use Rattle.substitution.proofs.Raised.{raisable, raises-copied, at-nothing}
 
 pub put-stays : {f d : ℕ} (a t : Term) → f ≤ d → max-free f t ≡ 0 → put d a t ≡ t
 unfolding put max-free
@@ -138,6 +138,11 @@ module _ {room : List ℕ} {used node depth argument : ℕ} (asked : Placeable r
             → Places room used node depth argument r after
         at-argument raises =
             copied-places (rw becomes (raises-copied (asked .put-term) (asked .holds-put) raises))
+
+        -- under no binder, as it is
+        pub at-once : depth ≡ 0
+            → Places room used node depth argument (record { node = argument; used = used }) room
+        at-once zero = at-argument (at-nothing argument-asks zero)
 
       -- a greater index falls by 1
       pub variable-asks : 2 * used + 2 ≤ length room

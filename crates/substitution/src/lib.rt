@@ -28,9 +28,6 @@ pub fn raise(room: &mut [u64], used: &mut usize, node: usize, amount: u64, depth
     ensures { λ r. ⌜ Raises (now (room .entry)) (now (used .entry)) node amount depth
         (made r (now (used .exit))) (now (room .exit)) ⌝ }
 {
-    if amount == 0 {
-        return node;
-    }
     let w = room[2 * node];
     if nodes::free_of(w) <= depth {
         return node;
@@ -76,6 +73,9 @@ pub fn put_in(room: &mut [u64], used: &mut usize, node: usize, depth: u64, argum
             return node;
         }
         if x == depth + 1 {
+            if depth == 0 {
+                return argument;
+            }
             return raise(room, used, argument, depth, 0);
         }
         let at = *used;

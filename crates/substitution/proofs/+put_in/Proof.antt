@@ -4,7 +4,7 @@ use native.Mathlib.Omega.{arith}
 use borrow.Author.Needs.{needs}
 use borrow.Fn.Kinds.{In}
 use borrow.Fn.PlainCycle.{Measures, is, falls, and}
-use Rattle.substitution.proofs.Placed.{at-shared, at-bound, argument-asks, at-argument}
+use Rattle.substitution.proofs.Placed.{at-shared, at-bound, at-once, argument-asks, at-argument}
 use Rattle.substitution.proofs.Placed.{variable-asks, at-variable}
 use Rattle.substitution.proofs.Placed.{body-asks, abstraction-asks, at-abstraction}
 use Rattle.substitution.proofs.Placed.{left-asks, right-asks, application-asks, at-application}
@@ -69,7 +69,7 @@ module _ (t : ℕ) where
 
   raise-requires : lts.Need-raise-requires (claims t) (given t) own.Post
   raise-requires c κs =
-      let at-if4 = c .before .before in
+      let at-if4 = c .before .before .before in
       let at-if2 = at-if4 .before .before in
       let at-kind-of = at-if2 .before in
       let start = at-kind-of .before .before .before .before .before .before in
@@ -77,8 +77,16 @@ module _ (t : ℕ) where
 
   returns-3 : lts.Need-returns-3 (claims t) (given t) own.Post
   returns-3 c =
+      let at-if4 = c .before in
+      let at-if2 = at-if4 .before .before in
+      let at-kind-of = at-if2 .before in
+      let start = at-kind-of .before .before .before .before .before .before in
+      at-once (start .pre .1) (at-kind-of .kind-of .ensures) (at-if2 .if2 .taken) (at-if4 .if4 .taken) (c .if5 .taken)
+
+  returns-4 : lts.Need-returns-4 (claims t) (given t) own.Post
+  returns-4 c =
       let at-raise = c .before .before in
-      let at-if4 = at-raise .before .before .before in
+      let at-if4 = at-raise .before .before .before .before in
       let at-if2 = at-if4 .before .before in
       let at-kind-of = at-if2 .before in
       let start = at-kind-of .before .before .before .before .before .before in
@@ -92,8 +100,8 @@ module _ (t : ℕ) where
       let start = at-kind-of .before .before .before .before .before .before in
       variable-asks (start .pre .1) (at-kind-of .kind-of .ensures) (at-if2 .if2 .taken)
 
-  returns-4 : lts.Need-returns-4 (claims t) (given t) own.Post
-  returns-4 c =
+  returns-5 : lts.Need-returns-5 (claims t) (given t) own.Post
+  returns-5 c =
       let at-make-variable = c .before .before in
       let at-if4 = at-make-variable .before .before .before in
       let at-if3 = at-if4 .before in
@@ -106,52 +114,52 @@ module _ (t : ℕ) where
 
   put-in-requires : lts.Need-put-in-requires (claims t) (given t) own.Post
   put-in-requires c κs =
-      let at-if5 = c .before .before in
-      let at-kind-of = at-if5 .before .before in
+      let at-if6 = c .before .before in
+      let at-kind-of = at-if6 .before .before in
       let start = at-kind-of .before .before .before .before .before .before in
-      let (falls, asks) = body-asks (start .pre .1) (at-kind-of .kind-of .ensures) (at-if5 .if5 .taken) in
+      let (falls, asks) = body-asks (start .pre .1) (at-kind-of .kind-of .ensures) (at-if6 .if6 .taken) in
       (omega arith, asks)
 
   make-abstraction-requires : lts.Need-make-abstraction-requires (claims t) (given t) own.Post
   make-abstraction-requires c κs =
       let at-put-in = c .before .before .before .before in
-      let at-if5 = at-put-in .before .before .before in
-      let at-kind-of = at-if5 .before .before in
+      let at-if6 = at-put-in .before .before .before in
+      let at-kind-of = at-if6 .before .before in
       let start = at-kind-of .before .before .before .before .before .before in
-      abstraction-asks (start .pre .1) (at-kind-of .kind-of .ensures) (at-if5 .if5 .taken)
+      abstraction-asks (start .pre .1) (at-kind-of .kind-of .ensures) (at-if6 .if6 .taken)
       (at-put-in .put-in .ensures)
 
-  returns-5 : lts.Need-returns-5 (claims t) (given t) own.Post
-  returns-5 c =
+  returns-6 : lts.Need-returns-6 (claims t) (given t) own.Post
+  returns-6 c =
       let at-make-abstraction = c .before .before in
       let at-put-in = at-make-abstraction .before .before .before .before .before in
-      let at-if5 = at-put-in .before .before .before in
-      let at-kind-of = at-if5 .before .before in
+      let at-if6 = at-put-in .before .before .before in
+      let at-kind-of = at-if6 .before .before in
       let start = at-kind-of .before .before .before .before .before .before in
       let (next, same, new) = at-make-abstraction .make-abstraction .ensures in
-      at-abstraction (start .pre .1) (at-kind-of .kind-of .ensures) (at-if5 .if5 .taken) (at-put-in .put-in .ensures)
+      at-abstraction (start .pre .1) (at-kind-of .kind-of .ensures) (at-if6 .if6 .taken) (at-put-in .put-in .ensures)
       next same new
 
   put-in-requires-2 : lts.Need-put-in-requires-2 (claims t) (given t) own.Post
   put-in-requires-2 c κs =
-      let at-if5 = c .before .before .before in
-      let at-if2 = at-if5 .before in
+      let at-if6 = c .before .before .before in
+      let at-if2 = at-if6 .before in
       let at-kind-of = at-if2 .before in
       let start = at-kind-of .before .before .before .before .before .before in
       let (falls, asks) = left-asks (start .pre .1) (at-kind-of .kind-of .ensures) (at-if2 .if2 .left)
-      (at-if5 .if5 .left) (c .left-of .ensures) in
+      (at-if6 .if6 .left) (c .left-of .ensures) in
       (omega arith, asks)
 
   put-in-requires-3 : lts.Need-put-in-requires-3 (claims t) (given t) own.Post
   put-in-requires-3 c κs =
       let at-put-in2 = c .before .before .before .before .before in
       let at-left-of = at-put-in2 .before in
-      let at-if5 = at-left-of .before .before .before in
-      let at-if2 = at-if5 .before in
+      let at-if6 = at-left-of .before .before .before in
+      let at-if2 = at-if6 .before in
       let at-kind-of = at-if2 .before in
       let start = at-kind-of .before .before .before .before .before .before in
       let (falls, asks) = right-asks (start .pre .1) (at-kind-of .kind-of .ensures) (at-if2 .if2 .left)
-      (at-if5 .if5 .left) (at-left-of .left-of .ensures) (at-put-in2 .put-in2 .ensures) (c .right-of .ensures) in
+      (at-if6 .if6 .left) (at-left-of .left-of .ensures) (at-put-in2 .put-in2 .ensures) (c .right-of .ensures) in
       (omega arith, asks)
 
   make-application-requires : lts.Need-make-application-requires (claims t) (given t) own.Post
@@ -160,27 +168,27 @@ module _ (t : ℕ) where
       let at-right-of = at-put-in3 .before in
       let at-put-in2 = at-right-of .before .before .before .before .before in
       let at-left-of = at-put-in2 .before in
-      let at-if5 = at-left-of .before .before .before in
-      let at-if2 = at-if5 .before in
+      let at-if6 = at-left-of .before .before .before in
+      let at-if2 = at-if6 .before in
       let at-kind-of = at-if2 .before in
       let start = at-kind-of .before .before .before .before .before .before in
-      application-asks (start .pre .1) (at-kind-of .kind-of .ensures) (at-if2 .if2 .left) (at-if5 .if5 .left)
+      application-asks (start .pre .1) (at-kind-of .kind-of .ensures) (at-if2 .if2 .left) (at-if6 .if6 .left)
       (at-left-of .left-of .ensures) (at-put-in2 .put-in2 .ensures) (at-right-of .right-of .ensures)
       (at-put-in3 .put-in3 .ensures)
 
-  returns-6 : lts.Need-returns-6 (claims t) (given t) own.Post
-  returns-6 c =
+  returns-7 : lts.Need-returns-7 (claims t) (given t) own.Post
+  returns-7 c =
       let at-make-application = c .before .before in
       let at-put-in3 = at-make-application .before .before .before .before .before in
       let at-right-of = at-put-in3 .before in
       let at-put-in2 = at-right-of .before .before .before .before .before in
       let at-left-of = at-put-in2 .before in
-      let at-if5 = at-left-of .before .before .before in
-      let at-if2 = at-if5 .before in
+      let at-if6 = at-left-of .before .before .before in
+      let at-if2 = at-if6 .before in
       let at-kind-of = at-if2 .before in
       let start = at-kind-of .before .before .before .before .before .before in
       let (next, same, new) = at-make-application .make-application .ensures in
-      at-application (start .pre .1) (at-kind-of .kind-of .ensures) (at-if2 .if2 .left) (at-if5 .if5 .left)
+      at-application (start .pre .1) (at-kind-of .kind-of .ensures) (at-if2 .if2 .left) (at-if6 .if6 .left)
       (at-left-of .left-of .ensures) (at-put-in2 .put-in2 .ensures) (at-right-of .right-of .ensures)
       (at-put-in3 .put-in3 .ensures) next same new
 
@@ -188,7 +196,8 @@ pub +put-in-spec : {M : Type 1} → statement M
 +put-in-spec = close μ λ t. lts.spec (claims t) (given t) own.Post
     (λ c. search needs) (λ c. search needs) (λ c. search needs) (λ c κs. search needs) (returns t)
     (λ c. search needs) (λ c. search needs) (λ c. search needs) (λ c. search needs) (λ c κs. search needs)
-    (returns-2 t) (λ c. search needs) (raise-requires t) (λ c. search needs) (returns-3 t) (λ c. search needs)
-    (make-variable-requires t) (λ c. search needs) (returns-4 t) (λ c. search needs) (put-in-requires t)
-    (make-abstraction-requires t) (λ c. search needs) (returns-5 t) (λ c κs. search needs) (put-in-requires-2 t)
-    (λ c κs. search needs) (put-in-requires-3 t) (make-application-requires t) (λ c. search needs) (returns-6 t)
+    (returns-2 t) (λ c. search needs) (returns-3 t) (raise-requires t) (λ c. search needs) (returns-4 t)
+    (λ c. search needs) (make-variable-requires t) (λ c. search needs) (returns-5 t) (λ c. search needs)
+    (put-in-requires t) (make-abstraction-requires t) (λ c. search needs) (returns-6 t) (λ c κs. search needs)
+    (put-in-requires-2 t) (λ c κs. search needs) (put-in-requires-3 t) (make-application-requires t)
+    (λ c. search needs) (returns-7 t)

@@ -5,17 +5,17 @@ use native.Mathlib.Omega.{arith}
 use borrow.Author.Needs.{needs}
 use Rattle.orders.specs.Orders.{order-of}
 use Rattle.engine.specs.States.{State, standing, told}
-use Rattle.engine.proofs.Runs.{turned-about, stays-normal}
+use Rattle.engine.proofs.Runs.{turned-about}
 use Rattle.engine.proofs.Told.{told-is, parts-at, resting-lent}
-use Rattle.engine.proofs.AtRest.{node-low}
+use Rattle.engine.proofs.AtRest.{node-low, at-once}
 use Rattle.engine.proofs.Places.{FurtherRun, rejoined, as-application, as-it-was}
 use Rattle.engine.proofs.Places.{rest-at-once, argument-asks, argument-halts, rest-after}
 use Rattle.engine.proofs.rounds.further.Reads as own
 use Rattle.engine.proofs.rounds.+further+here+in_body+in_parts+rest+round+run+run_part.Lts-further as lts
+use Rattle.engine.proofs.resting.at_rest.Reads as at-rest-reads
+use Rattle.nodes.proofs.pair.Reads as pair-reads
 use Rattle.nodes.proofs.kind_of.Reads as kind-of-reads
 use Rattle.engine.proofs.rounds.round.Reads as round
-use Rattle.nodes.proofs.normal_of.Reads as normal-of-reads
-use Rattle.nodes.proofs.pair.Reads as pair-reads
 use Rattle.nodes.proofs.left_of.Reads as left-of-reads
 use Rattle.nodes.proofs.right_of.Reads as right-of-reads
 use Rattle.orders.proofs.eager.Reads as eager-reads
@@ -36,14 +36,14 @@ use Rattle.engine.proofs.rounds.+further+here+in_body+in_parts+rest+rou
 
 abbrev claims : ℕ → lts.Claims
 claims t = (
+  at-rest-reads.Asked,
+  at-rest-reads.Learnt,
+  pair-reads.Asked,
+  pair-reads.Learnt,
   kind-of-reads.Asked,
   kind-of-reads.Learnt,
   round-below t,
   round.Post,
-  normal-of-reads.Asked,
-  normal-of-reads.Learnt,
-  pair-reads.Asked,
-  pair-reads.Learnt,
   left-of-reads.Asked,
   left-of-reads.Learnt,
   right-of-reads.Asked,
@@ -59,30 +59,30 @@ claims t = (
 )
 
 module _ (t : ℕ) where
-  round-requires : lts.Need-round-requires (claims t) (further-at t) own.Post
-  round-requires c κs =
-      let start = c .before .before .before .before .before .before .before .before in
-      let (u, rested) = start .pre .1 in
-      (omega (arith, start .pre .0), (u, rested .ready))
+  pair-requires : lts.Need-pair-requires (claims t) (further-at t) own.Post
+  pair-requires c κs =
+      let start = c .before .before .before .before in
+      (node-low (start .pre .1 .1 .ready), omega arith)
 
   returns : lts.Need-returns (claims t) (further-at t) own.Post
   returns c =
-      let at-round = c .before .before in
-      λ u rested. at-round .round .ensures u (rested .ready)
+      let at-if1 = c .before in
+      let at-at-rest = at-if1 .before in
+      let start = at-at-rest .before .before .before in
+      λ u rested.
+      at-once (at-at-rest .at-rest .ensures (at-if1 .if1 .taken))
+      (told-is (start .args .whole) 0 (c .pair .ensures) (node-low (rested .ready))) .ran u (rested .ready)
 
-  pair-requires : lts.Need-pair-requires (claims t) (further-at t) own.Post
-  pair-requires c κs =
-      let start = c .before .before .before .before .before .before in
-      (node-low (start .pre .1 .1 .ready), omega arith)
+  round-requires : lts.Need-round-requires (claims t) (further-at t) own.Post
+  round-requires c κs =
+      let start = c .before .before .before .before .before .before .before .before .before .before in
+      let (u, rested) = start .pre .1 in
+      (omega (arith, start .pre .0), (u, rested .ready))
 
   returns-2 : lts.Need-returns-2 (claims t) (further-at t) own.Post
   returns-2 c =
-      let at-if2 = c .before in
-      let at-normal-of = at-if2 .before in
-      let start = at-normal-of .before .before .before .before .before in
-      λ u rested.
-      stays-normal (rested .ready) (at-normal-of .normal-of .ensures) (at-if2 .if2 .taken)
-      (told-is (start .args .whole) 0 (c .pair .ensures) (node-low (rested .ready)))
+      let at-round = c .before .before in
+      λ u rested. at-round .round .ensures u (rested .ready)
 
   rest-requires : lts.Need-rest-requires (claims t) (further-at t) own.Post
   rest-requires c κs =
@@ -90,11 +90,11 @@ module _ (t : ℕ) where
       let at-eager = at-if3 .before in
       let at-right-of = at-eager .before in
       let at-left-of = at-right-of .before in
-      let at-if1 = at-left-of .before .before .before .before in
-      let at-kind-of = at-if1 .before in
-      let start = at-kind-of .before .before .before in
+      let at-if2 = at-left-of .before .before in
+      let at-kind-of = at-if2 .before in
+      let start = at-kind-of .before .before .before .before .before in
       let (u, rested) = start .pre .1 in
-      let fork = as-application rested (at-kind-of .kind-of .ensures) (at-if1 .if1 .left) in
+      let fork = as-application rested (at-kind-of .kind-of .ensures) (at-if2 .if2 .left) in
       let lazy = turned-about (at-eager .eager .ensures) (at-if3 .if3 .taken) in (
         omega (arith, start .pre .0),
         (
@@ -113,12 +113,12 @@ module _ (t : ℕ) where
       let at-eager = at-if3 .before in
       let at-right-of = at-eager .before in
       let at-left-of = at-right-of .before in
-      let at-if1 = at-left-of .before .before .before .before in
-      let at-kind-of = at-if1 .before in
+      let at-if2 = at-left-of .before .before in
+      let at-kind-of = at-if2 .before in
       let lazy = turned-about (at-eager .eager .ensures) (at-if3 .if3 .taken) in
       λ u rested.
-      let fork = as-application rested (at-kind-of .kind-of .ensures) (at-if1 .if1 .left) in
-      as-it-was rested (at-kind-of .kind-of .ensures) (at-if1 .if1 .left)
+      let fork = as-application rested (at-kind-of .kind-of .ensures) (at-if2 .if2 .left) in
+      as-it-was rested (at-kind-of .kind-of .ensures) (at-if2 .if2 .left)
       (at-rest .rest .ensures _ _ _ (resting-lent refl refl (rest-at-once fork (at-left-of .left-of .ensures)
       (at-right-of .right-of .ensures) lazy)))
 
@@ -128,11 +128,11 @@ module _ (t : ℕ) where
       let at-eager = at-if3 .before in
       let at-right-of = at-eager .before in
       let at-left-of = at-right-of .before in
-      let at-if1 = at-left-of .before .before .before .before in
-      let at-kind-of = at-if1 .before in
-      let start = at-kind-of .before .before .before in
+      let at-if2 = at-left-of .before .before in
+      let at-kind-of = at-if2 .before in
+      let start = at-kind-of .before .before .before .before .before in
       let (u, rested) = start .pre .1 in
-      let fork = as-application rested (at-kind-of .kind-of .ensures) (at-if1 .if1 .left) in
+      let fork = as-application rested (at-kind-of .kind-of .ensures) (at-if2 .if2 .left) in
       let on = turned-about (at-eager .eager .ensures) (at-if3 .if3 .left) in
       omega (arith, argument-asks fork (at-left-of .left-of .ensures) (at-right-of .right-of .ensures) on .ready .deep)
 
@@ -142,11 +142,11 @@ module _ (t : ℕ) where
       let at-eager = at-if3 .before in
       let at-right-of = at-eager .before in
       let at-left-of = at-right-of .before in
-      let at-if1 = at-left-of .before .before .before .before in
-      let at-kind-of = at-if1 .before in
-      let start = at-kind-of .before .before .before in
+      let at-if2 = at-left-of .before .before in
+      let at-kind-of = at-if2 .before in
+      let start = at-kind-of .before .before .before .before .before in
       let (u, rested) = start .pre .1 in
-      let fork = as-application rested (at-kind-of .kind-of .ensures) (at-if1 .if1 .left) in
+      let fork = as-application rested (at-kind-of .kind-of .ensures) (at-if2 .if2 .left) in
       let on = turned-about (at-eager .eager .ensures) (at-if3 .if3 .left) in
       let asks = argument-asks fork (at-left-of .left-of .ensures) (at-right-of .right-of .ensures) on in
       (omega (arith, start .pre .0, asks .ready .deep), (_, asks))
@@ -178,11 +178,11 @@ module _ (t : ℕ) where
       let at-eager = at-if3 .before in
       let at-right-of = at-eager .before in
       let at-left-of = at-right-of .before in
-      let at-if1 = at-left-of .before .before .before .before in
-      let at-kind-of = at-if1 .before in
-      let start = at-kind-of .before .before .before in
+      let at-if2 = at-left-of .before .before in
+      let at-kind-of = at-if2 .before in
+      let start = at-kind-of .before .before .before .before .before in
       let (u, rested) = start .pre .1 in
-      let fork = as-application rested (at-kind-of .kind-of .ensures) (at-if1 .if1 .left) in
+      let fork = as-application rested (at-kind-of .kind-of .ensures) (at-if2 .if2 .left) in
       let on = turned-about (at-eager .eager .ensures) (at-if3 .if3 .left) in
       let halts = argument-halts fork (at-left-of .left-of .ensures) (at-right-of .right-of .ensures) on
       (argument-run at-further)
@@ -202,12 +202,12 @@ module _ (t : ℕ) where
       let at-eager = at-if3 .before in
       let at-right-of = at-eager .before in
       let at-left-of = at-right-of .before in
-      let at-if1 = at-left-of .before .before .before .before in
-      let at-kind-of = at-if1 .before in
+      let at-if2 = at-left-of .before .before in
+      let at-kind-of = at-if2 .before in
       let on = turned-about (at-eager .eager .ensures) (at-if3 .if3 .left) in
       λ u rested.
-      let fork = as-application rested (at-kind-of .kind-of .ensures) (at-if1 .if1 .left) in
-      as-it-was rested (at-kind-of .kind-of .ensures) (at-if1 .if1 .left)
+      let fork = as-application rested (at-kind-of .kind-of .ensures) (at-if2 .if2 .left) in
+      as-it-was rested (at-kind-of .kind-of .ensures) (at-if2 .if2 .left)
       (rejoined (argument-halts fork (at-left-of .left-of .ensures) (at-right-of .right-of .ensures) on
       (argument-run at-further)
       (λ e. at-if4 .if4 .taken (at-right-of2 .right-of2 .ensures ∙ e))) refl
@@ -224,11 +224,11 @@ module _ (t : ℕ) where
       let at-eager = at-if3 .before in
       let at-right-of = at-eager .before in
       let at-left-of = at-right-of .before in
-      let at-if1 = at-left-of .before .before .before .before in
-      let at-kind-of = at-if1 .before in
-      let start = at-kind-of .before .before .before in
+      let at-if2 = at-left-of .before .before in
+      let at-kind-of = at-if2 .before in
+      let start = at-kind-of .before .before .before .before .before in
       let (u, rested) = start .pre .1 in
-      let fork = as-application rested (at-kind-of .kind-of .ensures) (at-if1 .if1 .left) in
+      let fork = as-application rested (at-kind-of .kind-of .ensures) (at-if2 .if2 .left) in
       let on = turned-about (at-eager .eager .ensures) (at-if3 .if3 .left) in
       let zero = sym (at-right-of2 .right-of2 .ensures) ∙ at-if4 .if4 .left in
       let resting = rest-after fork (at-left-of .left-of .ensures) (at-right-of .right-of .ensures) on
@@ -246,21 +246,21 @@ module _ (t : ℕ) where
       let at-eager = at-if3 .before in
       let at-right-of = at-eager .before in
       let at-left-of = at-right-of .before in
-      let at-if1 = at-left-of .before .before .before .before in
-      let at-kind-of = at-if1 .before in
+      let at-if2 = at-left-of .before .before in
+      let at-kind-of = at-if2 .before in
       let on = turned-about (at-eager .eager .ensures) (at-if3 .if3 .left) in
       let zero = sym (at-right-of2 .right-of2 .ensures) ∙ at-if4 .if4 .left in
       λ u rested.
-      let fork = as-application rested (at-kind-of .kind-of .ensures) (at-if1 .if1 .left) in
+      let fork = as-application rested (at-kind-of .kind-of .ensures) (at-if2 .if2 .left) in
       let resting = rest-after fork (at-left-of .left-of .ensures) (at-right-of .right-of .ensures) on
       (argument-run at-further) zero in
-      as-it-was rested (at-kind-of .kind-of .ensures) (at-if1 .if1 .left)
+      as-it-was rested (at-kind-of .kind-of .ensures) (at-if2 .if2 .left)
       (at-rest2 .rest2 .ensures _ _ _ (resting-lent refl (at-left-of2 .left-of2 .ensures) resting))
 
 pub further-meets : {M : Type 1} (t : ℕ) → lts.Closed (claims t) (further-at t) own.Post M
 further-meets t = lts.spec (claims t) (further-at t) own.Post
-    (λ c. search needs) (λ c. search needs) (λ c. search needs) (λ c κs. search needs) (round-requires t)
-    (λ c. search needs) (returns t) (λ c κs. search needs) (pair-requires t) (returns-2 t) (λ c. search needs)
+    (λ c. search needs) (λ c. search needs) (λ c. search needs) (λ c κs. search needs) (pair-requires t) (returns t)
+    (λ c κs. search needs) (round-requires t) (λ c. search needs) (returns-2 t) (λ c. search needs)
     (λ c. search needs) (λ c. search needs) (λ c. search needs) (λ c κs. search needs) (λ c κs. search needs)
     (λ c κs. search needs) (rest-requires t) (λ c. search needs) (returns-3 t) (add-further t) (further-requires t)
     (λ c κs. search needs) (λ c κs. search needs) (rejoin-requires t) (λ c. search needs) (returns-4 t)
