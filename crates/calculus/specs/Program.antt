@@ -82,22 +82,24 @@ report n (finished k t) = line (codes "finished") k ++ term-line n t
 report n (unfinished k t) = line (codes "unfinished") k ++ term-line n t
 report n (refused-after k e) = refused-line e
 
--- a limit outside its bounds is 1, before the text is read
+-- what a job comes to: a limit outside its bounds is 1, before the text is read
+unfoldable pub comes-to : Job → Run Term
+unfolding read-text run next-within put
+comes-to (job o limit n text) =
+    cond (limit-allowed limit) (run-on (read-text n program-cap text) (run (judge program-cap) o limit))
+    (refused-after 0 outside-bounds)
+
 abbrev pub done : Job → List ℕ
-unfolding codes numeral write-text read-text run next-within put
-done (job o limit n text) =
-    report n
-    (cond (limit-allowed limit)
-    (run-on (read-text n program-cap text) (run (judge program-cap) o limit))
-    (refused-after 0 outside-bounds))
+unfolding codes numeral write-text
+done (job o limit n text) = report n (comes-to (job o limit n text))
 
 abbrev pub done-or-malformed : Option Job → List ℕ
-unfolding codes numeral write-text read-text run next-within put
+unfolding codes numeral write-text comes-to
 done-or-malformed none = refused-line outside-bounds
 done-or-malformed (some j) = done j
 
 -- too many bytes are 3, before the first line is looked at
 unfoldable pub program-of : List ℕ → List ℕ
-unfolding codes numeral write-text first-line read-text run next-within put
+unfolding codes numeral write-text first-line comes-to
 program-of s =
     cond (leb (length s) most-input) (done-or-malformed (first-line s)) (refused-line text-too-long)

@@ -1,14 +1,13 @@
 -- What is written is read back.
 use Prim.Native.Nat.{ℕ, zero, suc, _≤_}
 use mathlib.Core.Path.{_≡_, refl}
-use mathlib.Core.Bool.{false}
 use mathlib.Core.List.{List, [], _∷_, _++_, append-assoc, append-nil}
 use native.Mathlib.Omega.{arith}
 use lib.ListN.{length}
-use Rattle.calculus.specs.Term.{Term, var, lam, app, nodes, height, greatest-index}
-use Rattle.calculus.specs.Bounds.{most-nodes, most-height, most-open, most-text, greatest-number}
+use Rattle.calculus.specs.Term.{Term, var, lam, app, nodes, height}
+use Rattle.calculus.specs.Bounds.{most-nodes, most-height, most-open, most-text}
 use Rattle.calculus.specs.Refusal.{Refusal, given}
-use Rattle.calculus.specs.Queries.{max-depth, has-free-variables}
+use Rattle.calculus.specs.Queries.{max-depth}
 use Rattle.calculus.specs.Words.{Word, ended, word, binder, closing, words-from, words}
 use Rattle.calculus.specs.Reading.{Notation, de-bruijn, classic, next, characters-of, read-text}
 use Rattle.calculus.specs.Writing.{grouped, as-left, as-right, written, binder-text, text-of-variable, gap-text}
@@ -145,15 +144,3 @@ round-trip n cap t f high few allowed =
       parsed-tokens t,
       in-bounds-given t high few,
     )
-
--- in De Bruijn's notation every term whose indices are numbers of 64 bits
-pub de-bruijn-reads-back : (cap : ℕ) (t : Term) → greatest-index t ≤ greatest-number
-    → height t ≤ most-height → nodes t ≤ cap → cap ≤ most-nodes
-    → read-text de-bruijn cap (write-text de-bruijn t) ≡ given t
-de-bruijn-reads-back = round-trip de-bruijn
-
--- in classic notation every term with neither a free variable nor index 0
-pub classic-reads-back : (cap : ℕ) (t : Term) → has-free-variables t ≡ false
-    → height t ≤ most-height → nodes t ≤ cap → cap ≤ most-nodes
-    → read-text classic cap (write-text classic t) ≡ given t
-classic-reads-back = round-trip classic

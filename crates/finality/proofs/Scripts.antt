@@ -8,8 +8,7 @@ use Rattle.calculus.specs.Term.{Term}
 use Rattle.calculus.specs.Bounds.{program-cap}
 use Rattle.calculus.specs.Refusal.{Answer, given, refused, outside-bounds}
 use Rattle.calculus.specs.Numbers.{numeral}
-use Rattle.calculus.specs.Judging.{judge, next-within}
-use Rattle.calculus.specs.Substitution.{put}
+use Rattle.calculus.specs.Judging.{judge}
 use Rattle.calculus.specs.Characters.{codes}
 use Rattle.calculus.specs.Writing.{write-text}
 use Rattle.calculus.specs.Orders.{Order}
@@ -17,26 +16,20 @@ use Rattle.calculus.specs.Runs.{finished, refused-after, run}
 use Rattle.calculus.specs.Ends.{Ends, ends-finished}
 use Rattle.calculus.specs.Reading.{Notation, read-text}
 use Rattle.calculus.specs.Outcomes.{limit-allowed, run-on}
-use Rattle.calculus.specs.Program.{job, report, done}
+use Rattle.calculus.specs.Program.{job, report, comes-to, done}
 use Rattle.calculus.proofs.Running.{run-ends, ends-run, accepted-steps}
 use Rattle.finality.specs.Full.{Full}
 use Rattle.finality.specs.Finished.{Finished}
-use Rattle.finality.specs.Scripts.{comes-to}
 use Rattle.finality.proofs.Final.{finished-agree}
 
 module _ (n : Notation) (text : List ℕ) where
-  -- the program reports what the script comes to
-  pub reported : (o : Order) (limit : ℕ) → done (job o limit n text) ≡ report n (comes-to n text o limit)
-  unfolding comes-to codes numeral write-text read-text run next-within put
-  reported o limit = refl
-
   -- the text is a term, from which the steps lead to one where none is left
   record Ended (o : Order) (limit k : ℕ) (t : Term) : Type 0 where
     from : Term
     read : read-text n program-cap text ≡ given from
     ends : Ends (judge program-cap) o limit from (finished k t)
 
-  ended : (o : Order) (limit : ℕ) {k : ℕ} {t : Term} → comes-to n text o limit ≡ finished k t → Ended o limit k t
+  ended : (o : Order) (limit : ℕ) {k : ℕ} {t : Term} → comes-to (job o limit n text) ≡ finished k t → Ended o limit k t
   unfolding comes-to
   ended o limit {k} {t} e = by-limit (limit-allowed limit) (read-text n program-cap text) refl e
     where
@@ -54,7 +47,7 @@ module _ (n : Notation) (text : List ℕ) where
 
   -- FIRST HALF: two scripts of one text that finish by NOR, HNO, APP or HAP have one term in their answers
   pub scripts-agree : {o p : Order} → Full o → Full p → (limit limit′ : ℕ) {k k′ : ℕ} {t u : Term}
-      → comes-to n text o limit ≡ finished k t → comes-to n text p limit′ ≡ finished k′ u → t ≡ u
+      → comes-to (job o limit n text) ≡ finished k t → comes-to (job p limit′ n text) ≡ finished k′ u → t ≡ u
   scripts-agree {o} {p} full full′ limit limit′ e e′ =
       let a = ended o limit e in
       let b = ended p limit′ e′ in
@@ -67,10 +60,10 @@ module _ (n : Notation) (text : List ℕ) where
 
   -- SECOND HALF: a finished script marked again with a limit no smaller has the same answer, to the byte
   pub marked-again : (o : Order) {limit limit′ k : ℕ} {t : Term} → limit ≤ limit′ → limit-allowed limit′ ≡ true
-      → comes-to n text o limit ≡ finished k t → done (job o limit′ n text) ≡ done (job o limit n text)
-  unfolding comes-to
+      → comes-to (job o limit n text) ≡ finished k t → done (job o limit′ n text) ≡ done (job o limit n text)
+  unfolding comes-to codes numeral write-text
   marked-again o {limit} {limit′} {k} {t} h allowed e =
       let a = ended o limit e in
-      let again : comes-to n text o limit′ ≡ finished k t =
+      let again : comes-to (job o limit′ n text) ≡ finished k t =
       rw (allowed, a .read) (ends-run (judge program-cap) o (more h (a .ends))) in
-      reported o limit′ ∙ ap (report n) (again ∙ sym e) ∙ sym (reported o limit)
+      ap (report n) (again ∙ sym e)

@@ -5,5 +5,4 @@ pub mod Finished
 pub mod Sestoft
 pub mod Meaning
 pub mod Readable
-pub mod Scripts
 pub mod Statements

@@ -1,7 +1,7 @@
 -- What the job of a first line comes to: 1 for the limit, the refusal of the text, or the run of its term.
 use Prim.Native.Nat.{ℕ, _*_, _≤_}
 use mathlib.Core.Path.{_≡_, refl, ap}
-use mathlib.Core.Bool.{true, false, cond}
+use mathlib.Core.Bool.{true, false}
 use mathlib.Core.List.{List}
 use lib.ListN.{length, take}
 use Rattle.calculus.specs.Term.{Term}
@@ -11,14 +11,12 @@ use Rattle.calculus.specs.Numbers.{numeral}
 use Rattle.calculus.specs.Characters.{codes}
 use Rattle.calculus.specs.Refusal as calculus
 use Rattle.calculus.specs.Refusal.{Answer, given, refused, _then_, outside-bounds}
-use Rattle.calculus.specs.Judging.{judge, next-within}
-use Rattle.calculus.specs.Substitution.{put}
 use Rattle.calculus.specs.Orders.{Order}
-use Rattle.calculus.specs.Runs.{Run, refused-after, run}
+use Rattle.calculus.specs.Runs.{refused-after}
 use Rattle.calculus.specs.Reading.{Notation, read-text}
 use Rattle.calculus.specs.Writing.{write-text}
-use Rattle.calculus.specs.Outcomes.{laid-over, stored, coded, run-on, limit-allowed, reduced, parse-of}
-use Rattle.calculus.specs.Program.{job, report, done, refused-line}
+use Rattle.calculus.specs.Outcomes.{laid-over, stored, coded, limit-allowed, reduced, parse-of}
+use Rattle.calculus.specs.Program.{job, report, comes-to, done, refused-line}
 use Rattle.calculus.proofs.Putting.{Puts}
 use Rattle.term.specs.Answers.{refusal-of}
 use Rattle.term.specs.declared.Refusal.{Refusal}
@@ -72,33 +70,27 @@ module _ (n : Notation) (text out room : List ℕ) (output : output-per-node * p
     refused-at is = read-refused (rw is at (answered says))
 
 -- THE RUN OF A JOB, which is reported
-abbrev run-of : Order → (limit : ℕ) → Notation → (text : List ℕ) → Run Term
-run-of o limit n text =
-    cond (limit-allowed limit) (run-on (read-text n program-cap text) (run (judge program-cap) o limit))
-    (refused-after 0 outside-bounds)
-
 module _ (o : Order) (limit : ℕ) (n : Notation) (text : List ℕ) where
-  pub done-is : done (job o limit n text) ≡ report n (run-of o limit n text)
-  unfolding codes numeral write-text read-text run next-within put
-  done-is = refl
-
-  refused-done : {e : calculus.Refusal} {r : ℕ} {out after : List ℕ} → run-of o limit n text ≡ refused-after 0 e
+  refused-done : {e : calculus.Refusal} {r : ℕ} {out after : List ℕ} → comes-to (job o limit n text) ≡ refused-after 0 e
       → Puts out 0 (refused-line e) r after
       → Puts out 0 (done (job o limit n text)) r after
-  refused-done ends put = rw done-is (refused-reported n ends put)
+  unfolding codes numeral write-text
+  refused-done ends put = refused-reported n ends put
 
   pub limit-refused : limit-allowed limit ≡ false → {r : ℕ} {out after : List ℕ}
       → Puts out 0 (refused-line outside-bounds) r after → Puts out 0 (done (job o limit n text)) r after
+  unfolding comes-to
   limit-refused e put = refused-done (rw e) put
 
   module _ (allowed : limit-allowed limit ≡ true) {r : ℕ} {out after : List ℕ} where
     pub text-refused : {e : calculus.Refusal} → read-text n program-cap text ≡ refused e
         → Puts out 0 (refused-line e) r after → Puts out 0 (done (job o limit n text)) r after
+    unfolding comes-to
     text-refused reads put = refused-done (rw (allowed, reads)) put
 
     pub text-run : {k : ℕ} {buffer : List ℕ} → Read (read-text n program-cap text) k buffer
         → Puts out 0 (report n (reduced o limit program-cap (take k buffer))) r after
         → Puts out 0 (done (job o limit n text)) r after
-    unfolding reduced
+    unfolding reduced comes-to codes numeral write-text
     text-run read put =
-        rw (done-is, allowed, read .reads) (rw (read .at-start .bytes, read-passes n text (read .reads)) at put)
+        rw (allowed, read .reads) (rw (read .at-start .bytes, read-passes n text (read .reads)) at put)

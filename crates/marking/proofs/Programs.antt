@@ -20,7 +20,7 @@ use Rattle.calculus.specs.Runs.{Run, refused-after}
 use Rattle.calculus.specs.Reading.{Notation, read-text}
 use Rattle.calculus.specs.Writing.{write-text}
 use Rattle.calculus.specs.Outcomes.{limit-allowed}
-use Rattle.calculus.specs.Program.{Job, job, line, term-line, refused-line, report, done, done-or-malformed}
+use Rattle.calculus.specs.Program.{Job, job, line, term-line, refused-line, report, comes-to, done, done-or-malformed}
 use Rattle.calculus.specs.Program.{first-line, program-of}
 use Rattle.calculus.proofs.Putting.{Puts, puts-length, laid}
 use Rattle.io.specs.Counts.{Counts}
@@ -29,7 +29,6 @@ use Rattle.marking.specs.Working.{most-word, most-output}
 use Rattle.marking.proofs.Lines.{line-short}
 use Rattle.marking.proofs.Texts.{text-short}
 use Rattle.marking.proofs.Passing.{Passes, read-passes, Reaches, at-end, at-limit, nowhere, run-reaches}
-use Rattle.marking.proofs.Jobs.{done-is}
 
 -- HOW LONG IT IS
 refused-short : (e : Refusal) → length (refused-line e) ≤ most-output
@@ -54,9 +53,10 @@ report-short n (at-limit {k = k} p) = reached-short (codes "unfinished") k n (om
 report-short n (nowhere {why = why}) = refused-short why
 
 done-short : (j : Job) → length (done j) ≤ most-output
+unfolding comes-to codes numeral write-text
 done-short (job o limit n text) =
     let ran = run-reaches o limit (read-text n program-cap text) (λ t e. read-passes n text e) in
-    rw (done-is o limit n text) (report-short n (by-limit ran (limit-allowed limit)))
+    report-short n (by-limit ran (limit-allowed limit))
   where
     by-limit : {r : Run Term} → Reaches r → (b : Bool) → Reaches (cond b r (refused-after 0 outside-bounds))
     by-limit ran true = ran
