@@ -12,6 +12,7 @@ pub mod Scripts
 pub mod EtaFinal
 pub mod Tokens
 pub mod Walked
+pub mod Offences
 pub mod Lexed
 pub mod RoundTrip
 pub mod ReadBack

@@ -5,4 +5,5 @@ pub mod Finished
 pub mod Sestoft
 pub mod Meaning
 pub mod Readable
+pub mod Offences
 pub mod Statements

@@ -10,20 +10,13 @@ fn show_answer(case: &[u8]) {
     io::write_all(STDOUT_FILENO, b"~\n");
 }
 
+// Behind a case are its tilde and its line feed, then the next case.
 fn show_answers(input: &[u8]) {
-    let mut at: usize = 0;
-    for _ in 0..input.len() {
-        if input.len() <= at {
-            return;
-        }
-        let end = lines::word_end(input, at, b'~');
-        show_answer(lines::part(input, at, end));
-        if input.len() <= end {
-            return;
-        }
-        at = end + 1;
-        if at < input.len() {
-            at += 1;
+    let mut from: usize = 0;
+    for at in 0..input.len() {
+        if input[at] == b'~' && from <= at {
+            show_answer(&input[from..at]);
+            from = at + 2;
         }
     }
 }

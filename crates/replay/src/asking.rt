@@ -1,4 +1,5 @@
 // What a line asks for, and the call.
+use crate::lines;
 use copperjangle::Answer;
 ghost use Prim.Native.Nat.{_≤_};
 
@@ -14,7 +15,8 @@ pub(crate) const KINDS: usize = 12;
 
 fn kind_of(word: &[u8]) -> usize {
     lines::which(
-        b"parse print apply eta reduce equality nodes height max_depth max_free_index has_free_variables is_supercombinator",
+        b"parse print apply eta reduce equality \
+          nodes height max_depth max_free_index has_free_variables is_supercombinator",
         word,
     )
 }

@@ -1,12 +1,12 @@
 // What is lent to a call, and what became of it.
 use crate::asking::PRINT;
 use crate::asking::REDUCE;
+use crate::lines::decimal;
+use crate::lines::word;
 use crate::telling::say;
 use calculus::MOST_NODES;
 use calculus::ROOM_PER_NODE;
 use copperjangle::Answer;
-use lines::decimal;
-use lines::word;
 
 // The cap that is stated, the bytes of output and the numbers of room.
 pub(crate) struct Lent {

@@ -1,14 +1,17 @@
 // Asks the exported functions what each line of standard input says, and writes the answers to standard output.
 mod asking;
 mod lending;
+mod lines;
 mod telling;
+mod terms;
+mod unfolding;
 
 use asking::Asked;
 use copperjangle::Answer;
 use lending::Lent;
 use libc::STDIN_FILENO;
-use lines::terms::Inputs;
 use telling::say;
+use terms::Inputs;
 
 // The call, with output and room full of a pattern.
 fn ask(
@@ -80,12 +83,12 @@ fn read_inputs(asked: Asked, work: &mut [u8], length: usize) -> Inputs {
             second_end: length,
         };
     }
-    lines::terms::read(work, length, asked.from, asked.end, asked.next)
+    terms::read(work, length, asked.from, asked.end, asked.next)
 }
 
 // What is lent from here on: a line that asks nothing is repeated, and may say it anew.
 fn answer_line(line: &[u8], lent: Lent, work: &mut [u8], out: &mut [u8], room: &mut [u64]) -> Lent {
-    let length = lines::unfolding::unfold(line, work);
+    let length = unfolding::unfold(line, work);
     let asked = asking::read(lines::part(work, 0, length));
     if asking::KINDS <= asked.kind {
         say(line);

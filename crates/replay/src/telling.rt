@@ -1,5 +1,6 @@
 // The words of an answer: its six numbers, and what stands first in the output.
 use crate::asking::PRINT;
+use crate::lines::part;
 use copperjangle::Answer;
 use libc::STDOUT_FILENO;
 use term::Head;
@@ -98,6 +99,6 @@ pub(crate) fn tell(kind: usize, answer: Answer, out: &[u8], length: usize) {
     tell_answer(answer);
     if 0 < length {
         say(b" ");
-        tell_output(kind, lines::part(out, 0, length));
+        tell_output(kind, part(out, 0, length));
     }
 }

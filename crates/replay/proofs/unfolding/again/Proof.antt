@@ -1,24 +1,23 @@
--- `lines::unfolding::unfold` is safe and ends.
+-- `replay::unfolding::again` is safe and ends.
 use Prim.Native.Nat.{_-_}
 use mathlib.Core.Path.{_≡_}
 use lib.ListN.{length}
 use borrow.Author.Needs.{needs}
-use Rattle.lines.proofs.unfolding.unfold.Statement.{statement}
-use Rattle.lines.proofs.unfolding.unfold.Tie as tie
+use Rattle.replay.proofs.unfolding.again.Statement.{statement}
+use Rattle.replay.proofs.unfolding.again.Tie as tie
 
 abbrev Inv-loop : tie.InvT-loop
-Inv-loop line work₀ done₀ counter₀ end work done counter = (length work ≡ length work₀)
+Inv-loop work₀ from end at to₀ i₀ work to i = length work ≡ length work₀
 
 abbrev μ-loop : tie.MeasureT-loop
-μ-loop line work₀ done₀ counter₀ end work done counter = length line - counter
+μ-loop work₀ from end at to₀ i₀ work to i = end - i
 
-pub unfold-spec : {M : Type 1} → statement M
-unfold-spec =
+pub again-spec : {M : Type 1} → statement M
+again-spec =
     tie.close
     (tie.spec
     Inv-loop
     μ-loop
-    (λ c. search needs)
     (λ c. search needs)
     (λ c. search needs)
     (λ c. search needs)

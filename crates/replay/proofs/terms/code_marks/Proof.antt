@@ -1,10 +1,10 @@
--- `lines::terms::code_marks` is safe and ends.
+-- `replay::terms::code_marks` is safe and ends.
 use Prim.Native.Nat.{_-_}
 use mathlib.Core.Path.{_≡_}
 use lib.ListN.{length}
 use borrow.Author.Needs.{needs}
-use Rattle.lines.proofs.terms.code_marks.Statement.{statement}
-use Rattle.lines.proofs.terms.code_marks.Tie as tie
+use Rattle.replay.proofs.terms.code_marks.Statement.{statement}
+use Rattle.replay.proofs.terms.code_marks.Tie as tie
 
 abbrev Inv-loop : tie.InvT-loop
 Inv-loop work₀ from end to done₀ counter₀ work done counter = length work ≡ length work₀

@@ -2,12 +2,12 @@
 //
 // `\` is an abstraction, `@` an application, a hex digit a variable of that index; a greater index stands in brackets.
 // A word that begins with `=` has the coded bytes themselves.
-use crate::digit;
-use crate::hex;
-use crate::part;
-use crate::past;
-use crate::put;
-use crate::word_end;
+use crate::lines::digit;
+use crate::lines::hex;
+use crate::lines::part;
+use crate::lines::past;
+use crate::lines::put;
+use crate::lines::word_end;
 
 // Bytes of the work, between two places.
 struct Place {
@@ -16,11 +16,11 @@ struct Place {
 }
 
 // The first input is between two places of the work, and the second between two others.
-pub struct Inputs {
-    pub first: usize,
-    pub first_end: usize,
-    pub second: usize,
-    pub second_end: usize,
+pub(crate) struct Inputs {
+    pub(crate) first: usize,
+    pub(crate) first_end: usize,
+    pub(crate) second: usize,
+    pub(crate) second_end: usize,
 }
 
 fn larger(a: usize, b: usize) -> usize {
@@ -103,7 +103,7 @@ fn code(work: &mut [u8], from: usize, end: usize, to: usize) -> Place {
 
 // The line takes the first so many bytes of the work. Its first input is between two places of it, and a second one
 // follows another place.
-pub fn read(work: &mut [u8], length: usize, from: usize, end: usize, next: usize) -> Inputs {
+pub(crate) fn read(work: &mut [u8], length: usize, from: usize, end: usize, next: usize) -> Inputs {
     let first = code(work, from, end, length);
     let second = code(work, next, length, larger(first.end, length));
     Inputs {

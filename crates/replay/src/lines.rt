@@ -1,11 +1,8 @@
-// For the programs that read cases: the words of a line; in its modules what a line unfolds to, and the terms it has.
-pub mod terms;
-pub mod unfolding;
-
+// The words of a line, the numbers that they say, and bytes put into a buffer.
 use calculus::GREATEST_NUMBER;
 
 // Writes a byte and moves on; at the end of the buffer it does neither.
-pub fn put(buf: &mut [u8], at: usize, b: u8) -> usize {
+pub(crate) fn put(buf: &mut [u8], at: usize, b: u8) -> usize {
     if at < buf.len() {
         buf[at] = b;
         at + 1
@@ -15,7 +12,7 @@ pub fn put(buf: &mut [u8], at: usize, b: u8) -> usize {
 }
 
 // The bytes of a buffer between two places, or none where there are no such places.
-pub fn part(buf: &[u8], from: usize, to: usize) -> &[u8] {
+pub(crate) fn part(buf: &[u8], from: usize, to: usize) -> &[u8] {
     if buf.len() < to {
         return &buf[..0];
     }
@@ -26,7 +23,7 @@ pub fn part(buf: &[u8], from: usize, to: usize) -> &[u8] {
 }
 
 // Where the word that begins at a place ends: at a mark, or with the bytes.
-pub fn word_end(words: &[u8], from: usize, mark: u8) -> usize {
+pub(crate) fn word_end(words: &[u8], from: usize, mark: u8) -> usize {
     let mut at = from;
     while at < words.len() {
         if words[at] == mark {
@@ -38,12 +35,12 @@ pub fn word_end(words: &[u8], from: usize, mark: u8) -> usize {
 }
 
 // The place behind the mark that ends a word, or the end of the bytes.
-pub fn past(words: &[u8], end: usize) -> usize {
+pub(crate) fn past(words: &[u8], end: usize) -> usize {
     if end < words.len() { end + 1 } else { end }
 }
 
 // The place behind so many spaces, or the line's end.
-pub fn place(line: &[u8], spaces: usize) -> usize {
+pub(crate) fn place(line: &[u8], spaces: usize) -> usize {
     let mut at: usize = 0;
     for _ in 0..spaces {
         at = past(line, word_end(line, at, b' '));
@@ -52,13 +49,13 @@ pub fn place(line: &[u8], spaces: usize) -> usize {
 }
 
 // The word behind so many spaces, or none.
-pub fn word(line: &[u8], spaces: usize) -> &[u8] {
+pub(crate) fn word(line: &[u8], spaces: usize) -> &[u8] {
     let from = place(line, spaces);
     part(line, from, word_end(line, from, b' '))
 }
 
 // Which of the names, themselves a line's words, a word is, from 0 on; for any other a number that no name has.
-pub fn which(names: &[u8], name: &[u8]) -> usize {
+pub(crate) fn which(names: &[u8], name: &[u8]) -> usize {
     for number in 0..names.len() {
         if check::same(word(names, number), name) {
             return number;
@@ -68,7 +65,7 @@ pub fn which(names: &[u8], name: &[u8]) -> usize {
 }
 
 // A hex digit's value; 16 for any other byte.
-pub fn digit(b: u8) -> u64 {
+pub(crate) fn digit(b: u8) -> u64 {
     if b < b'0' {
         return 16;
     }
@@ -86,7 +83,7 @@ pub fn digit(b: u8) -> u64 {
 }
 
 // The number that a word's digits say; 0 for a word that says no 64-bit number.
-pub fn decimal(digits: &[u8]) -> u64 {
+pub(crate) fn decimal(digits: &[u8]) -> u64 {
     let mut value: u64 = 0;
     let mut at: usize = 0;
     while at < digits.len() {
@@ -104,7 +101,7 @@ pub fn decimal(digits: &[u8]) -> u64 {
 }
 
 // The same of hex digits.
-pub fn hex(digits: &[u8]) -> u64 {
+pub(crate) fn hex(digits: &[u8]) -> u64 {
     let mut value: u64 = 0;
     let mut at: usize = 0;
     while at < digits.len() {

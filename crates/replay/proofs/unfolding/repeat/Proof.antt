@@ -1,10 +1,10 @@
--- `lines::unfolding::repeat` is safe and ends.
+-- `replay::unfolding::repeat` is safe and ends.
 use Prim.Native.Nat.{_-_}
 use mathlib.Core.Path.{_≡_}
 use lib.ListN.{length}
 use borrow.Author.Needs.{needs}
-use Rattle.lines.proofs.unfolding.repeat.Statement.{statement}
-use Rattle.lines.proofs.unfolding.repeat.Tie as tie
+use Rattle.replay.proofs.unfolding.repeat.Statement.{statement}
+use Rattle.replay.proofs.unfolding.repeat.Tie as tie
 
 abbrev Inv-loop : tie.InvT-loop
 Inv-loop work₀ from end count to₀ counter₀ work to counter = length work ≡ length work₀

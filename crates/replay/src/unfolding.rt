@@ -1,10 +1,10 @@
 // A line as it is meant: `%` and two hex digits are a byte, `{piece}9;` so many pieces.
-use crate::decimal;
-use crate::hex;
-use crate::part;
-use crate::past;
-use crate::put;
-use crate::word_end;
+use crate::lines::decimal;
+use crate::lines::hex;
+use crate::lines::part;
+use crate::lines::past;
+use crate::lines::put;
+use crate::lines::word_end;
 
 // The places reached in the line and in the work, and where the last piece begins.
 struct Unfolded {
@@ -76,7 +76,7 @@ fn unfold_one(line: &[u8], b: u8, was: Unfolded, work: &mut [u8]) -> Unfolded {
 }
 
 // How many bytes of the work the line takes.
-pub fn unfold(line: &[u8], work: &mut [u8]) -> usize {
+pub(crate) fn unfold(line: &[u8], work: &mut [u8]) -> usize {
     let mut done = Unfolded {
         at: 0,
         to: 0,

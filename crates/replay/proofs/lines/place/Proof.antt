@@ -1,8 +1,8 @@
--- `lines::place` is safe and ends.
+-- `replay::lines::place` is safe and ends.
 use Prim.Native.Nat.{_-_, _≤_}
 use borrow.Author.Needs.{needs}
-use Rattle.lines.proofs.place.Statement.{statement}
-use Rattle.lines.proofs.place.Tie as tie
+use Rattle.replay.proofs.lines.place.Statement.{statement}
+use Rattle.replay.proofs.lines.place.Tie as tie
 
 abbrev Inv-loop : tie.InvT-loop
 Inv-loop line spaces at₀ counter₀ at counter = counter ≤ spaces

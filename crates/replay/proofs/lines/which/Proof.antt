@@ -1,9 +1,9 @@
--- `lines::which` is safe and ends.
+-- `replay::lines::which` is safe and ends.
 use Prim.Native.Nat.{_-_, _≤_}
 use lib.ListN.{length}
 use borrow.Author.Needs.{needs}
-use Rattle.lines.proofs.which.Statement.{statement}
-use Rattle.lines.proofs.which.Tie as tie
+use Rattle.replay.proofs.lines.which.Statement.{statement}
+use Rattle.replay.proofs.lines.which.Tie as tie
 
 abbrev Inv-loop : tie.InvT-loop
 Inv-loop names name number₀ number-end number = number ≤ length names

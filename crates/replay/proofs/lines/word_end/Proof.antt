@@ -1,9 +1,9 @@
--- `lines::word_end` is safe and ends.
+-- `replay::lines::word_end` is safe and ends.
 use Prim.Native.Nat.{_-_, _≤_}
 use borrow.Author.Needs.{needs}
 use lib.ListN.{length}
-use Rattle.lines.proofs.word_end.Statement.{statement}
-use Rattle.lines.proofs.word_end.Tie as tie
+use Rattle.replay.proofs.lines.word_end.Statement.{statement}
+use Rattle.replay.proofs.lines.word_end.Tie as tie
 
 abbrev Inv-loop : tie.InvT-loop
 Inv-loop words from mark at₀ at = from ≤ at

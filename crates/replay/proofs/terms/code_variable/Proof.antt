@@ -1,11 +1,11 @@
--- `lines::terms::code_variable` is safe: its bytes fit, and the length stays.
+-- `replay::terms::code_variable` is safe: its bytes fit, and the length stays.
 use mathlib.Core.Path.{_∙_}
 use native.Mathlib.Omega.{arith}
 use lib.ListN.{length-set}
 use borrow.Author.Needs.{needs}
 use Rattle.calculus.proofs.Putting.{puts-length}
-use Rattle.lines.proofs.terms.code_variable.Statement.{statement}
-use Rattle.lines.proofs.terms.code_variable.Tie as tie
+use Rattle.replay.proofs.terms.code_variable.Statement.{statement}
+use Rattle.replay.proofs.terms.code_variable.Tie as tie
 
 put-index-requires : tie.Need-put-index-requires
 put-index-requires c κs = rw length-set (omega arith)
