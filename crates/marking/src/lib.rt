@@ -6,7 +6,7 @@ use asking::Asked;
 use nodes::runs::Run;
 use orders::Order;
 use parser::Parsed;
-use printer::writer::put;
+use printer::putting::put;
 use telling::put_line;
 use telling::put_refusal;
 use telling::put_term;

@@ -1,7 +1,7 @@
 // The program's output: a line of a word and a number, and the text of a term.
 use printer::Printed;
-use printer::writer::put;
-use printer::writer::put_all;
+use printer::putting::put;
+use printer::putting::put_all;
 use term::Notation;
 use term::Refusal;
 use term::refusal_number;

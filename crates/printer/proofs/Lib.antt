@@ -6,4 +6,6 @@ mod Walking
 mod Printing
 mod TextRoom
 mod Gauged
+mod HeldWriter
+mod LentAgain
 pub mod Unique

@@ -16,7 +16,7 @@ use Rattle.calculus.specs.Writing.{characters-written, write-text}
 use Rattle.calculus.specs.Outcomes.{stored, checked, print-of}
 use Rattle.calculus.proofs.Coding.{AllBytes}
 use Rattle.calculus.proofs.Judged.{checked-given}
-use Rattle.calculus.proofs.Putting.{laid}
+use Rattle.calculus.proofs.Putting.{laid, puts-length}
 use Rattle.calculus.proofs.Shown.{text-length}
 use Rattle.term.specs.Answers.{check-told, check-of}
 use Rattle.term.specs.FactsOf.{facts-of}
@@ -29,15 +29,15 @@ use Rattle.term.specs.declared.Refusal.the-variants.{OutputTooShort}
 use Rattle.term.specs.declared.Checked.{Checked}
 use Rattle.term.specs.declared.Checked.the-variants as checks
 use Rattle.term.proofs.Checking.{decoded-stands, check-whole, check-refused}
-use Rattle.printer.specs.Parts.{part-text, Writable, Writes}
+use Rattle.printer.specs.Parts.{part-text, Writable}
 use Rattle.printer.specs.Answers.{printed-told}
 use Rattle.printer.specs.Printing.{StyleOf, Printable, Measures, Fitting, Prints}
+use Rattle.printer.specs.Writers.{WritesWhole}
 use Rattle.printer.specs.Gauges.{style-by, GaugedWhole, GaugesWhole}
 use Rattle.printer.specs.declared.gauging.Gauge.{Gauge}
 use Rattle.printer.specs.declared.gauging.Gauge.the-variants as gauge
 use Rattle.printer.specs.declared.pieces.Style.{Style}
 use Rattle.printer.specs.declared.Part.the-variants.{Whole}
-use Rattle.printer.specs.declared.Reached.{Reached}
 use Rattle.printer.specs.declared.Fit.{Fit}
 use Rattle.printer.specs.declared.Fit.the-variants.{Fits, Needs}
 use Rattle.printer.specs.declared.Printed.{Printed}
@@ -64,6 +64,16 @@ module _ {w : Style} {plenty : ℕ} {s : List ℕ} (p : Printable w plenty s) wh
         shallow = omega (arith, p .low);
         countable = omega (arith, text, text-length (notation-of (w .notation)) t, p .few);
       }
+
+-- WHAT A WHOLE TERM LEAVES: a slice as long as before, and the same wherever its place and its bytes are told
+module _ {w : Style} {s before : List ℕ} {from to : ℕ} {after : List ℕ} where
+  pub whole-length : {room : ℕ} → Writable w s 0 0 Whole from room → WritesWhole w s before from to after
+      → length after ≡ length before
+  whole-length asked wrote = puts-length (part-text w 0 Whole (asked .term)) (wrote .puts (asked .term) (asked .stands))
+
+  pub written-to : {place : ℕ} {last : List ℕ} → WritesWhole w s before from to after → place ≡ to → last ≡ after
+      → WritesWhole w s before from place last
+  written-to wrote e k = rw (e, k) wrote
 
 -- WHETHER IT FITS
 module _ (w : Style) (plenty : ℕ) (s : List ℕ) (room : ℕ) where
@@ -109,8 +119,8 @@ module _ {w : Style} {plenty : ℕ} {s out : List ℕ} {fit : Fit} (fits : Fitti
         rw (over, same);
   }
 
-  pub prints : {to : Reached} {after : List ℕ} → fit ≡ Fits → Writes w s 0 0 Whole out 0 to after
-      → Prints w plenty s out (Length (to .to)) after
+  pub prints : {to : ℕ} {after : List ℕ} → fit ≡ Fits → WritesWhole w s out 0 to after
+      → Prints w plenty s out (Length to) after
   unfolding printed-told
   prints k write = record {
     printed = λ t st e.

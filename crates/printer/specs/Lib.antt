@@ -3,4 +3,5 @@ pub mod Pieces
 pub mod Parts
 pub mod Answers
 pub mod Printing
+pub mod Writers
 pub mod Gauges

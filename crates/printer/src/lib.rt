@@ -1,7 +1,8 @@
 // Both printers: the De Bruijn and the classic text of any coded term, written into a lent slice.
 mod gauging;
 mod pieces;
-pub mod writer;
+pub mod putting;
+mod writer;
 
 use calculus::MOST_HEIGHT;
 use calculus::MOST_NODES;
@@ -18,6 +19,7 @@ ghost use Rattle.term.specs.Notations.{notation-of};
 ghost use Rattle.printer.specs.Parts.{groups-lam, groups-app, Writable, Writes};
 ghost use Rattle.printer.specs.Answers.{printed-told};
 ghost use Rattle.printer.specs.Printing.{Printable, Measures, Fitting, Prints};
+ghost use Rattle.printer.specs.Writers.{WritesWhole};
 ghost use Rattle.printer.specs.declared.Part.the-variants.{Whole};
 
 // Which part of an application a term is, or none.
@@ -75,11 +77,11 @@ fn write_part(
         match term::head_at(s, at) {
             Head::Variable(index) => {
                 let end = pieces::put_variable(out, to, style, depth, index);
-                let to = writer::put_times(out, end, b')', closes);
+                let to = putting::put_times(out, end, b')', closes);
                 return Reached { next: at + 9, to };
             }
             Head::Abstraction => {
-                let opened = writer::put_if(out, to, groups_abstraction(part), b'(');
+                let opened = putting::put_if(out, to, groups_abstraction(part), b'(');
                 closes += opened - to;
                 to = pieces::put_binder(out, opened, style, depth);
                 depth += 1;
@@ -87,7 +89,7 @@ fn write_part(
                 at += 1;
             }
             Head::Application => {
-                let opened = writer::put_if(out, to, groups_application(part), b'(');
+                let opened = putting::put_if(out, to, groups_application(part), b'(');
                 closes += opened - to;
                 let left = write_part(out, opened, style, s, at + 1, depth, Part::Left, room - 1);
                 to = pieces::put_gap(out, left.to, style);
@@ -100,14 +102,22 @@ fn write_part(
     }
 }
 
+// The text of a whole term, and the place after it.
+fn write_whole(out: &mut [u8], to: usize, style: Style, s: &[u8]) -> usize
+    requires { ⌜ Writable style (now s) 0 0 Whole to most-height ⌝ }
+    ensures { λ r. ⌜ WritesWhole style (now (s .entry)) (now (out .entry)) to r (now (out .exit)) ⌝ }
+{
+    let text = write_part(out, to, style, s, 0, 0, Part::Whole, MOST_HEIGHT);
+    text.to
+}
+
 // How long the text of a whole term is: the walk writes into nothing.
 fn text_length(style: Style, s: &[u8]) -> usize
     requires { ⌜ Writable style (now s) 0 0 Whole 0 most-height ⌝ }
     ensures { λ r. ⌜ Measures style (now (s .entry)) r ⌝ }
 {
     let mut nothing: [u8; 0] = [];
-    let text = write_part(&mut nothing, 0, style, s, 0, 0, Part::Whole, MOST_HEIGHT);
-    text.to
+    writer::write(&mut nothing, style, s)
 }
 
 // Whether a text fits, or its length.
@@ -146,8 +156,8 @@ fn print_whole(style: Style, plenty: usize, s: &[u8], out: &mut [u8]) -> Printed
     match judge_length(style, plenty, s, out.len()) {
         Fit::Needs(length) => Printed::Refused(Refusal::OutputTooShort(length)),
         Fit::Fits => {
-            let text = write_part(out, 0, style, s, 0, 0, Part::Whole, MOST_HEIGHT);
-            Printed::Length(text.to)
+            let length = writer::write(out, style, s);
+            Printed::Length(length)
         }
     }
 }

@@ -1,6 +1,6 @@
 // The pieces of a text: an index, a name, and in either notation a variable, a binder and the gap between two parts.
-use crate::writer::put;
-use crate::writer::put_all;
+use crate::putting::put;
+use crate::putting::put_all;
 use calculus::GREATEST_NUMBER;
 use term::Notation;
 ghost use mathlib.Core.Path.{_≡_};

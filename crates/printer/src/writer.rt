@@ -1,53 +1,48 @@
-// The text writer: each function puts bytes at a place of a lent slice and returns the place after them.
-ghost use mathlib.Core.Bool.{cond};
-ghost use mathlib.Core.List.{[], _∷_};
-ghost use Prim.Native.Nat.{_+_, _≤_, _<_};
-ghost use lib.ListN.{length, replicate};
-ghost use Rattle.calculus.specs.Bounds.{greatest-number};
-ghost use Rattle.calculus.proofs.Putting.{Puts};
+// The text writer: the lent output and the place reached, kept together.
+use crate::pieces::Style;
+ghost use mathlib.Core.Path.{_≡_};
+ghost use Rattle.calculus.specs.Bounds.{most-height};
+ghost use Rattle.printer.specs.Parts.{Writable};
+ghost use Rattle.printer.specs.Writers.{WritesWhole, WritesOn};
+ghost use Rattle.printer.specs.declared.Part.the-variants.{Whole};
 
-// Past the end a byte is counted and not stored, so that one walk both measures a text and writes it.
-pub fn put(out: &mut [u8], to: usize, b: u8) -> usize
-    requires { ⌜ to < greatest-number ⌝ }
-    ensures { λ r. ⌜ Puts (now (out .entry)) to (b ∷ []) r (now (out .exit)) ⌝ }
+// A function that has a writer is thin: what is done is done on the slice and the place.
+pub(crate) struct Writer<'a> {
+    pub out: &'a mut [u8],
+    pub place: usize,
+}
+
+// A writer at the start of a slice.
+fn begin<'a>(out: &'a mut [u8]) -> Writer<'a>
+    ensures { λ r. ⌜ (r .out ≡ out .entry) × (r .place ≡ 0) ⌝ }
 {
-    if to < out.len() {
-        out[to] = b;
-        to + 1
-    } else {
-        to + 1
+    Writer { out: out, place: 0 }
+}
+
+// A whole term; the writer is handed back.
+fn write_term<'a, 'b>(w: Writer<'a>, style: Style, s: &'b [u8]) -> Writer<'a>
+    requires { ⌜ Writable style (now s) 0 0 Whole (w .place) most-height ⌝ }
+    ensures { λ r. ⌜ WritesOn style (now (s .entry)) (w .entry) r ⌝ }
+{
+    let place = w.place;
+    let reached = crate::write_whole(&mut *w.out, place, style, s);
+    Writer {
+        out: w.out,
+        place: reached,
     }
 }
 
-pub fn put_all(out: &mut [u8], to: usize, text: &[u8]) -> usize
-    requires { ⌜ to + length (now text) ≤ greatest-number ⌝ }
-    ensures { λ r. ⌜ Puts (now (out .entry)) to (now (text .entry)) r (now (out .exit)) ⌝ }
+// The place reached. The slice is as it was.
+fn place_of<'a>(w: Writer<'a>) -> usize
+    ensures { λ r. ⌜ (r ≡ w .entry .place) × (now (w .exit .0) ≡ now (w .entry .out)) ⌝ }
 {
-    let mut place = to;
-    let mut i: usize = 0;
-    while i < text.len() {
-        place = put(out, place, text[i]);
-        i += 1;
-    }
-    place
+    w.place
 }
 
-pub(crate) fn put_times(out: &mut [u8], to: usize, b: u8, times: usize) -> usize
-    requires { ⌜ to + times ≤ greatest-number ⌝ }
-    ensures { λ r. ⌜ Puts (now (out .entry)) to (replicate times b) r (now (out .exit)) ⌝ }
+// From a slice to a writer and back: whoever calls this does not meet a writer.
+pub(crate) fn write(out: &mut [u8], style: Style, s: &[u8]) -> usize
+    requires { ⌜ Writable style (now s) 0 0 Whole 0 most-height ⌝ }
+    ensures { λ r. ⌜ WritesWhole style (now (s .entry)) (now (out .entry)) 0 r (now (out .exit)) ⌝ }
 {
-    let mut place = to;
-    let mut i: usize = 0;
-    while i < times {
-        place = put(out, place, b);
-        i += 1;
-    }
-    place
-}
-
-pub(crate) fn put_if(out: &mut [u8], to: usize, wanted: bool, b: u8) -> usize
-    requires { ⌜ to + length (cond wanted (b ∷ []) []) ≤ greatest-number ⌝ }
-    ensures { λ r. ⌜ Puts (now (out .entry)) to (cond wanted (b ∷ []) []) r (now (out .exit)) ⌝ }
-{
-    if wanted { put(out, to, b) } else { to }
+    place_of(write_term(begin(out), style, s))
 }

@@ -22,8 +22,8 @@ use Rattle.printer.proofs.groups_application.Reads as groups-applicatio
 use Rattle.printer.proofs.pieces.put_binder.Reads as put-binder-reads
 use Rattle.printer.proofs.pieces.put_gap.Reads as put-gap-reads
 use Rattle.printer.proofs.pieces.put_variable.Reads as put-variable-reads
-use Rattle.printer.proofs.writer.put_if.Reads as put-if-reads
-use Rattle.printer.proofs.writer.put_times.Reads as put-times-reads
+use Rattle.printer.proofs.putting.put_if.Reads as put-if-reads
+use Rattle.printer.proofs.putting.put_times.Reads as put-times-reads
 use Rattle.term.proofs.head_at.Reads as head-at-reads
 use Rattle.printer.proofs.+write_part.{statement}
 use Rattle.printer.proofs.+write_part.Tie.{close}

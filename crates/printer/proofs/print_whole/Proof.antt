@@ -4,8 +4,8 @@ use Rattle.printer.proofs.Printing.{whole-writable, refuses-short, prin
 use Rattle.printer.proofs.print_whole.Statement.{statement}
 use Rattle.printer.proofs.print_whole.Tie as tie
 
-write-part-requires : tie.Need-write-part-requires
-write-part-requires c κs =
+write-requires : tie.Need-write-requires
+write-requires c κs =
     let start = c .before .before .before .before .before .before in
     whole-writable (start .pre)
 
@@ -16,11 +16,11 @@ returns c =
 
 returns-2 : tie.Need-returns-2
 returns-2 c =
-    let at-write-part = c .before .before in
-    let at-enum-told = at-write-part .before .before in
+    let at-write = c .before .before in
+    let at-enum-told = at-write .before .before in
     let at-judge-length = at-enum-told .before .before in
     prints (at-judge-length .judge-length .ensures) (at-enum-told .enum-told .given .1)
-    (at-write-part .write-part .ensures)
+    (at-write .write .ensures)
 
 pub print-whole-spec : {M : Type 1} → statement M
 print-whole-spec =
@@ -29,7 +29,7 @@ print-whole-spec =
     (λ c κs. search needs)
     (λ c. search needs)
     (λ c. search needs)
-    write-part-requires
+    write-requires
     returns
     (λ c. search needs)
     returns-2)

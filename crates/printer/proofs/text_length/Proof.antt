@@ -6,7 +6,7 @@ use Rattle.printer.proofs.text_length.Statement.{statement}
 use Rattle.printer.proofs.text_length.Tie as tie
 
 returns : tie.Need-returns
-returns c = record { measured = λ t st. c .before .write-part .ensures .puts t st .reached ∙ zero-add _ }
+returns c = record { measured = λ t st. c .before .write .ensures .puts t st .reached ∙ zero-add _ }
 
 pub text-length-spec : {M : Type 1} → statement M
 text-length-spec =

@@ -11,7 +11,7 @@ use borrow.Fn.PlainCycle.{Measures, is, falls, and}
 use Rattle.marking.proofs.telling.put_decimal.Reads as own
 use Rattle.marking.proofs.telling.put_decimal.Kinds as kinds
 use Rattle.marking.proofs.telling.+put_decimal.Lts-put_decimal as lts
-use Rattle.printer.proofs.writer.put.Reads as put-reads
+use Rattle.printer.proofs.putting.put.Reads as put-reads
 use Rattle.marking.proofs.telling.+put_decimal.{statement}
 use Rattle.marking.proofs.telling.+put_decimal.Tie.{close}
 

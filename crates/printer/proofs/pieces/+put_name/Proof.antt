@@ -13,7 +13,7 @@ use borrow.Fn.PlainCycle.{Measures, is, falls, and}
 use Rattle.printer.proofs.pieces.put_name.Reads as own
 use Rattle.printer.proofs.pieces.put_name.Kinds as kinds
 use Rattle.printer.proofs.pieces.+put_name.Lts-put_name as lts
-use Rattle.printer.proofs.writer.put.Reads as put-reads
+use Rattle.printer.proofs.putting.put.Reads as put-reads
 use Rattle.printer.proofs.pieces.+put_name.{statement}
 use Rattle.printer.proofs.pieces.+put_name.Tie.{close}
 

@@ -1,6 +1,7 @@
 -- The measures of the cycle: the depth, which rises at each run in a part, and after it the turn of the call.
 use Prim.Native.Nat.{ℕ, _+_, _*_, _-_, _<_}
-use borrow.Fn.Kinds.{In}
+use mathlib.Core.List.{List}
+use borrow.Fn.Kinds.{PK, In}
 use borrow.Fn.PlainCycle.{Measures, is, falls, and}
 use Rattle.calculus.specs.Bounds.{most-height}
 use Rattle.engine.proofs.rounds.further.Reads as further
@@ -44,51 +45,58 @@ abbrev pub μ-run : Measures 4 run-kinds.ps ℕ
 abbrev pub μ-run-part : Measures 4 run-part-kinds.ps ℕ
 μ-run-part κs a = 8 * (most-height - a .1 .1 .1 .1 .1 .1 .0) + 6
 
--- what each is given at the measure t, and what a call of it asks below t
+-- what a function is given at the measure t, and what a call of it asks below t
+module _ (ps : List (PK 4)) (μ : Measures 4 ps ℕ) (pre : In 4 ps) where
+  abbrev given-at : ℕ → In 4 ps
+  given-at t = and 4 ps (is 4 ps μ t) pre
+
+  abbrev asked-below : ℕ → In 4 ps
+  asked-below t = and 4 ps (falls 4 ps _<_ μ t) pre
+
 abbrev pub further-at : ℕ → In 4 further-kinds.ps
-further-at t = and 4 further-kinds.ps (is 4 further-kinds.ps μ-further t) further.Pre
+further-at = given-at further-kinds.ps μ-further further.Pre
 
 abbrev pub further-below : ℕ → In 4 further-kinds.ps
-further-below t = and 4 further-kinds.ps (falls 4 further-kinds.ps _<_ μ-further t) further.Pre
+further-below = asked-below further-kinds.ps μ-further further.Pre
 
 abbrev pub here-at : ℕ → In 4 here-kinds.ps
-here-at t = and 4 here-kinds.ps (is 4 here-kinds.ps μ-here t) here.Pre
+here-at = given-at here-kinds.ps μ-here here.Pre
 
 abbrev pub here-below : ℕ → In 4 here-kinds.ps
-here-below t = and 4 here-kinds.ps (falls 4 here-kinds.ps _<_ μ-here t) here.Pre
+here-below = asked-below here-kinds.ps μ-here here.Pre
 
 abbrev pub in-body-at : ℕ → In 4 in-body-kinds.ps
-in-body-at t = and 4 in-body-kinds.ps (is 4 in-body-kinds.ps μ-in-body t) in-body.Pre
+in-body-at = given-at in-body-kinds.ps μ-in-body in-body.Pre
 
 abbrev pub in-body-below : ℕ → In 4 in-body-kinds.ps
-in-body-below t = and 4 in-body-kinds.ps (falls 4 in-body-kinds.ps _<_ μ-in-body t) in-body.Pre
+in-body-below = asked-below in-body-kinds.ps μ-in-body in-body.Pre
 
 abbrev pub in-parts-at : ℕ → In 4 in-parts-kinds.ps
-in-parts-at t = and 4 in-parts-kinds.ps (is 4 in-parts-kinds.ps μ-in-parts t) in-parts.Pre
+in-parts-at = given-at in-parts-kinds.ps μ-in-parts in-parts.Pre
 
 abbrev pub in-parts-below : ℕ → In 4 in-parts-kinds.ps
-in-parts-below t = and 4 in-parts-kinds.ps (falls 4 in-parts-kinds.ps _<_ μ-in-parts t) in-parts.Pre
+in-parts-below = asked-below in-parts-kinds.ps μ-in-parts in-parts.Pre
 
 abbrev pub rest-at : ℕ → In 4 rest-kinds.ps
-rest-at t = and 4 rest-kinds.ps (is 4 rest-kinds.ps μ-rest t) rest.Pre
+rest-at = given-at rest-kinds.ps μ-rest rest.Pre
 
 abbrev pub rest-below : ℕ → In 4 rest-kinds.ps
-rest-below t = and 4 rest-kinds.ps (falls 4 rest-kinds.ps _<_ μ-rest t) rest.Pre
+rest-below = asked-below rest-kinds.ps μ-rest rest.Pre
 
 abbrev pub round-at : ℕ → In 4 round-kinds.ps
-round-at t = and 4 round-kinds.ps (is 4 round-kinds.ps μ-round t) round.Pre
+round-at = given-at round-kinds.ps μ-round round.Pre
 
 abbrev pub round-below : ℕ → In 4 round-kinds.ps
-round-below t = and 4 round-kinds.ps (falls 4 round-kinds.ps _<_ μ-round t) round.Pre
+round-below = asked-below round-kinds.ps μ-round round.Pre
 
 abbrev pub run-at : ℕ → In 4 run-kinds.ps
-run-at t = and 4 run-kinds.ps (is 4 run-kinds.ps μ-run t) run.Pre
+run-at = given-at run-kinds.ps μ-run run.Pre
 
 abbrev pub run-below : ℕ → In 4 run-kinds.ps
-run-below t = and 4 run-kinds.ps (falls 4 run-kinds.ps _<_ μ-run t) run.Pre
+run-below = asked-below run-kinds.ps μ-run run.Pre
 
 abbrev pub run-part-at : ℕ → In 4 run-part-kinds.ps
-run-part-at t = and 4 run-part-kinds.ps (is 4 run-part-kinds.ps μ-run-part t) run-part.Pre
+run-part-at = given-at run-part-kinds.ps μ-run-part run-part.Pre
 
 abbrev pub run-part-below : ℕ → In 4 run-part-kinds.ps
-run-part-below t = and 4 run-part-kinds.ps (falls 4 run-part-kinds.ps _<_ μ-run-part t) run-part.Pre
+run-part-below = asked-below run-part-kinds.ps μ-run-part run-part.Pre
