@@ -13,6 +13,7 @@ pub mod EtaFinal
 pub mod Tokens
 pub mod Walked
 pub mod Offences
+pub mod EtaRules
 pub mod Lexed
 pub mod RoundTrip
 pub mod ReadBack

@@ -6,4 +6,5 @@ pub mod Sestoft
 pub mod Meaning
 pub mod Readable
 pub mod Offences
+pub mod EtaRules
 pub mod Statements

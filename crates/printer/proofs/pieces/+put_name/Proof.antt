@@ -1,4 +1,5 @@
--- `printer::pieces::put_name` meets its contract: all letters but the last are a call. The number falls.
+-- `printer::pieces::put_name` meets its contract: all letters but the last are a call. The letters are the measure, and
+-- no number has more than 14 (`shown-name`).
 use Prim.Native.Nat.{ℕ, _+_, _-_, _/_, _%_, _<_}
 use mathlib.Core.Path.{ap}
 use mathlib.Core.List.{[], _∷_}
@@ -19,7 +20,7 @@ use Rattle.printer.proofs.pieces.+put_name.Tie.{close}
 
 -- the measure; what the function is given at the measure t, and what a call of it asks below t
 abbrev μ : Measures 1 kinds.ps ℕ
-μ κs a = a .1 .1 .0
+μ κs a = length (name-text (a .1 .1 .0))
 
 abbrev given : ℕ → In 1 kinds.ps
 given t = and 1 kinds.ps (is 1 kinds.ps μ t) own.Pre
@@ -47,7 +48,7 @@ module _ (t : ℕ) where
   put-name-requires c κs =
       let start = c .before .before .before in
       let longer = name-longer (start .args .number) (c .before .if1 .left) (start .fits .number .fits) in
-      (omega arith, omega (arith, start .pre .1, longer))
+      (omega (arith, start .pre .0, longer), omega (arith, start .pre .1, longer))
 
   put-requires-2 : lts.Need-put-requires-2 (claims t) (given t) own.Post
   put-requires-2 c κs =
