@@ -44,6 +44,7 @@ calls =
     ∷ parse classic "\\aλ1.aλ1" gives answers (given (lam (var 1)))
     ∷ parse classic "\\a.A" gives answers (refused undefined-free-variable)
     ∷ parse classic "\\a.a.b" gives answers (refused undefined-free-variable)
+    ∷ parse classic "\\a.a\\b.b" gives answers (refused undefined-free-variable)
     ∷ parse classic "\\1a.a" gives answers (refused (invalid-character 1 49))
     ∷ parse classic "\\a" gives answers (refused empty-expression)
     -- brackets: 64 bits and no more, leading zeros, white space

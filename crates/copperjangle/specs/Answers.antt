@@ -1,27 +1,28 @@
 -- Every answer in six numbers: a field that has nothing to say is 0.
 use Prim.Native.Nat.{ℕ}
 use mathlib.Core.Bool.{Bool, cond}
+use mathlib.Core.List.{List, [], _∷_}
+use lib.Dec.{eqb}
 use Rattle.calculus.specs.Refusal as calculus
-use Rattle.calculus.specs.Refusal.{Refusal, given, refused, refusal-number}
+use Rattle.calculus.specs.Refusal.{Refusal, given, refused, refusal-number, refusal-values}
 use Rattle.calculus.specs.Runs.{Run, finished, unfinished, refused-after}
 use Rattle.calculus.specs.Outcomes.{Outcome}
 use Rattle.copperjangle.specs.declared.Answer.{Answer}
 
--- what a refusal returns besides its number: the length needed, the offset or place, the code point
+-- the first and the second of the values that a refusal returns, or 0
+abbrev pub first : List ℕ → ℕ
+first [] = 0
+first (v ∷ vs) = v
+
+abbrev pub second : List ℕ → ℕ
+second [] = 0
+second (v ∷ vs) = first vs
+
+-- where they are told, as (value, place, code): the length that 13 needs is a value; an offset or a place comes first of
+-- all others, and a code point second
 abbrev pub details : Refusal → ℕ × ℕ × ℕ
-details calculus.outside-bounds = (0, 0, 0)
-details calculus.too-little-room = (0, 0, 0)
-details calculus.text-too-long = (0, 0, 0)
-details (calculus.outside-domain offset) = (0, offset, 0)
-details (calculus.invalid-character place code) = (0, place, code)
-details calculus.undefined-free-variable = (0, 0, 0)
-details calculus.too-high = (0, 0, 0)
-details calculus.empty-expression = (0, 0, 0)
-details calculus.too-many-nodes = (0, 0, 0)
-details (calculus.not-a-term offset) = (0, offset, 0)
-details calculus.not-abs = (0, 0, 0)
-details calculus.index-too-great = (0, 0, 0)
-details (calculus.output-too-short needed) = (needed, 0, 0)
+details e =
+    let vs = refusal-values e in cond (eqb (refusal-number e) 13) (first vs, 0, 0) (0, first vs, second vs)
 
 -- a refusal after so many steps
 abbrev pub refused-in-numbers : (steps : ℕ) → Refusal → Answer

@@ -1,4 +1,4 @@
--- REFUSALS 7 AND 8 OF A TEXT are given exactly where 01's words have them.
+-- WHERE A TEXT OFFENDS: the walk gives 7 only where too much is open, the grammar 8 exactly where nothing stands.
 use Prim.Native.Nat.{ℕ, zero, suc, _≤_, _<_, max}
 use mathlib.Core.Path.{_≡_, refl, ap}
 use mathlib.Core.Bool.{Bool, true, false}
