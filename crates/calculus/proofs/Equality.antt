@@ -1,6 +1,6 @@
 -- The test of equality is that of being the same term.
 use mathlib.Core.Path.{◌≡◌, refl, ap, ap₂}
-use mathlib.Core.Bool.{true, false, false≢true}
+use mathlib.Core.Bool.{true, false≢true}
 use borrow.Author.Tests.{eq-eqb, eqb-true}
 use Rattle.calculus.specs.Term.{Term, var, lam, app}
 use Rattle.calculus.specs.Queries.{same}

@@ -4,7 +4,7 @@ use Rattle.std.proofs.Math.Option.{Option, none, some}
 use Rattle.calculus.specs.Term.{Term}
 use Rattle.calculus.specs.Numbers.{between, numeral, from_digits}
 use Rattle.calculus.specs.Bounds.{most_input, program_cap}
-use Rattle.calculus.specs.Refusal.{Refusal, refusal_number, refused, outside_bounds, text_too_long}
+use Rattle.calculus.specs.Refusal.{Refusal, refusal_number, outside_bounds, text_too_long}
 use Rattle.calculus.specs.Judging.{judge, next_within}
 use Rattle.calculus.specs.Substitution.{put}
 use Rattle.calculus.specs.Orders.{Order, CBN, HSP, CBV, APP, NOR, HNO, HAP}

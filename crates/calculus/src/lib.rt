@@ -1,4 +1,5 @@
 // The bounds of document 01 as constants; all else of this crate is definitions (specs/) and laws about them (proofs/).
+#![tactic(auto)]
 
 // The most nodes that a cap may state, and that a query or a printer takes.
 pub const MOST_NODES: u64 = 65536;
