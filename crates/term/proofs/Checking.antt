@@ -71,6 +71,9 @@ module _ (cap : ℕ) (s : List ℕ) {r : Scan} (scans : Scans (decode s) r) wher
             kept false = refl
         by_reach d (above_room high) = rw (d.same, lt-leb (height d.term) most_height high)
 
+-- what closes the goals of `check`
+pub ruleset checks = (refuses_broken, whole-begins, judged-whole)
+
 -- WHAT A CALLER LEARNS from the check's answer
 pub record IsWhole (cap : ℕ) (s : List ℕ) (f : Facts) : Type 0 where
   pub term : Term

@@ -1,6 +1,7 @@
 -- What stands at an offset, by the tests that find it out, and how a term is read by it.
 use Prim.Native.Nat.{ℕ, zero, suc, ◌+◌, ◌-◌, ◌≤◌, ◌<◌}
-use mathlib.Core.Path.{◌≡◌, refl, ap, ◌∙◌}
+use mathlib.Core.Path.{◌≡◌, refl, sym, ap, ◌∙◌}
+use native.Mathlib.Numerals.{add-one}
 use mathlib.Core.Bool.{Bool, true, false}
 use mathlib.Core.List.{List, [], ◌∷◌}
 use native.Mathlib.Omega.{arith}
@@ -42,6 +43,34 @@ pub head_variable : (s : List ℕ) (at : ℕ) → at + 9 ≤ length s
     → head_of_kind 1 (drop (suc at) s) ≡ Variable (from_digits 256 (take 8 (drop (suc at) s)))
 unfolding head_of_kind
 head_variable s at h = rw (le-leb 8 (length (drop (suc at) s)) (rw length-drop (omega arith)))
+
+-- THE ANSWERS of `head_at`
+pub told_past : (s : List ℕ) (at : ℕ) → length s ≤ at → Nothing ≡ head_in (drop at s)
+told_past s at h = sym (head_past s at h)
+
+pub told_abstraction : (s : List ℕ) (at : ℕ) → at < length s → get_or s at 0 ≡ 2 → Abstraction ≡ head_in (drop at s)
+unfolding head_of_kind
+told_abstraction s at h e = sym (head_kind s at h e)
+
+pub told_application : (s : List ℕ) (at : ℕ) → at < length s → get_or s at 0 ≡ 3 → Application ≡ head_in (drop at s)
+unfolding head_of_kind
+told_application s at h e = sym (head_kind s at h e)
+
+pub told_cut : (s : List ℕ) (at : ℕ) → at < length s → get_or s at 0 ≡ 1 → length s - at < 9
+    → Nothing ≡ head_in (drop at s)
+told_cut s at h e cut = sym (head_kind s at h e ∙ head_cut s at cut)
+
+pub told_none : (s : List ℕ) (at : ℕ) → at < length s → (get_or s at 0 ≡ 1 → ⊥) → (get_or s at 0 ≡ 2 → ⊥)
+    → (get_or s at 0 ≡ 3 → ⊥)
+    → Nothing ≡ head_in (drop at s)
+told_none s at h a b c = sym (head_kind s at h refl ∙ no_kind _ _ a b c)
+
+pub told_variable : (s : List ℕ) (at : ℕ) {i : ℕ} → get_or s at 0 ≡ 1 → at + 9 ≤ length s
+    → i ≡ from_digits 256 (take 8 (drop (at + 1) s))
+    → Variable i ≡ head_in (drop at s)
+told_variable s at e fits is = rw (is, add-one, head_kind s at (omega arith) e, head_variable s at fits)
+
+pub ruleset told = (told_past, told_abstraction, told_application, told_cut, told_none, told_variable)
 
 -- HOW FAR a head reaches
 abbrev pub width : Head → ℕ

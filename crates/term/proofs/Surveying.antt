@@ -5,7 +5,7 @@ use mathlib.Core.List.{List}
 use native.Mathlib.Omega.{arith}
 use native.Mathlib.Numerals.{add-one}
 use lib.ListN.{length, drop}
-use Rattle.calculus.specs.Term.{Term, var, lam, app, nodes, height}
+use Rattle.calculus.specs.Term.{Term, var, lam, app, height}
 use Rattle.calculus.proofs.Measures.{height_positive, depth_low}
 use Rattle.calculus.proofs.Sizes.{size, nodes-size}
 use Rattle.term.specs.Heads.{head_in}
@@ -161,3 +161,6 @@ known st found e =
     let few = nodes-size t in
     let shallow = depth_low t in
     rw (same, end) (record { few = omega arith; inside = omega arith; low = low; shallow = omega arith })
+
+-- what closes the goals of `survey_at`
+pub ruleset walks = (no_room, at_nothing, at_variable, at_abstraction, body-over, at_application, left_over, right-over, body-begins, left-begins, right-begins)

@@ -1,4 +1,6 @@
 // Coded terms: what stands at an offset, and whether any bytes are one whole term within the bounds.
+#![tactic(auto)]
+
 ghost use Rattle.std.specs.Prelude.{◌≡◌, not, ◌||◌, ◌+◌, ◌-◌, ◌≤◌, ◌<◌, max, length, take, drop};
 ghost use Rattle.calculus.specs.Term.{var};
 ghost use Rattle.calculus.specs.Numbers.{between, from_digits};
@@ -13,14 +15,14 @@ ghost use Rattle.term.specs.Answers.{refusal_of, check_told, check_of};
 use calculus::MOST_HEIGHT;
 
 // The two notations of text.
-#[derive(Drop)]
+#[derive(Clone, Copy)]
 pub enum Notation {
     DeBruijn,
     Classic,
 }
 
 // The thirteen refusals of document 01, which all crates share.
-#[derive(Drop)]
+#[derive(Clone, Copy)]
 pub enum Refusal {
     OutsideBounds,
     TooLittleRoom,
@@ -59,7 +61,7 @@ pub fn refusal_number(why: Refusal) -> u64
 }
 
 // What stands at an offset: a variable with its index, another node, or no node.
-#[derive(Drop)]
+#[derive(Clone, Copy)]
 pub enum Head {
     Variable(u64),
     Abstraction,
@@ -87,6 +89,7 @@ pub fn index_at(s: &[u8], at: usize) -> u64
     value
 }
 
+#[tactic(auto, using(crate::proofs::Heads::told))]
 pub fn head_at(s: &[u8], at: usize) -> Head
     ensures { result ≡ head_in (drop at s.now) }
 {
@@ -110,7 +113,7 @@ pub fn head_at(s: &[u8], at: usize) -> Head
 }
 
 // Whether the bytes are one whole term, or where they are not.
-#[derive(Drop)]
+#[derive(Clone, Copy)]
 enum Scan {
     Whole,
     Broken(usize),
@@ -149,7 +152,7 @@ fn scan_all(s: &[u8]) -> Scan
 
 // All that the queries ask of a term under some abstractions, found out by one walk: its nodes, its height, the most
 // abstractions on a path, whether some index is 0 or free, and how far indices reach beyond their depth.
-#[derive(Drop)]
+#[derive(Clone, Copy)]
 pub struct Facts {
     pub nodes: u64,
     pub height: u64,
@@ -159,7 +162,7 @@ pub struct Facts {
 }
 
 // The facts of a term and the offset after it, or that it is higher than the room.
-#[derive(Drop)]
+#[derive(Clone, Copy)]
 enum Survey {
     Within(Facts, usize),
     Over,
@@ -191,6 +194,7 @@ fn above(index: u64, depth: u64) -> u64
     if depth < index { index - depth } else { 0 }
 }
 
+#[tactic(auto, unfolding(crate::specs::FactsOf::facts_of))]
 fn of_variable(index: u64, depth: u64) -> Facts
     ensures { result ≡ facts_of depth (var index) }
 {
@@ -231,6 +235,7 @@ fn of_application(left: Facts, right: Facts) -> Facts
 }
 
 // The room falls at each call, so that calls nest no deeper than it.
+#[tactic(auto, using(crate::proofs::Surveying::walks))]
 fn survey_at(s: &[u8], at: usize, depth: u64, room: u64) -> Survey
     requires room_bound { depth + room ≤ most_height }
     requires begins { Begins s.now at }
@@ -262,13 +267,14 @@ fn survey_at(s: &[u8], at: usize, depth: u64, room: u64) -> Survey
 }
 
 // What a check finds: the facts of the whole term, or the first refusal that holds.
-#[derive(Drop)]
+#[derive(Clone, Copy)]
 pub enum Checked {
     Whole(Facts),
     Refused(Refusal),
 }
 
 // Refusal 7, then 9.
+#[tactic(auto, unfolding(crate::specs::Answers::check_told))]
 fn judge(cap: u64, found: Survey) -> Checked
     ensures { check_told result ≡ judged cap found }
 {
@@ -285,6 +291,7 @@ fn judge(cap: u64, found: Survey) -> Checked
 }
 
 // Refusal 10, then 7, then 9 against a cap, which may be any number.
+#[tactic(auto, using(crate::proofs::Checking::checks))]
 pub fn check(cap: u64, s: &[u8]) -> Checked
     ensures { check_told result ≡ check_of cap s.now }
 {
