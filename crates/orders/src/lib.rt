@@ -1,10 +1,12 @@
 // The seven orders, and the traits by which one engine runs them all.
+#![tactic(auto)]
+
 ghost use Rattle.std.specs.Prelude.{◌≡◌};
 ghost use Rattle.calculus.specs.Orders as calculus;
 ghost use Rattle.calculus.specs.Traits as traits;
 ghost use Rattle.orders.specs.Orders.{order_of};
 
-#[derive(Drop)]
+#[derive(Clone, Copy)]
 pub enum Order {
     NOR,
     CBN,
@@ -76,6 +78,7 @@ pub fn late(order: Order) -> bool
 }
 
 // Whether the same order steps in the body of an abstraction.
+#[tactic(auto, unfolding(calculus::specs::Orders::enters))]
 pub fn enters(order: Order) -> bool
     ensures { result ≡ calculus.enters (order_of order) }
 {
