@@ -82,6 +82,7 @@ neither (some t) y e = absurd (none-ne-some t (sym e))
 none_tried : (try : Place → Option Term) {p : Place} {ps : List Place} → first try ps ≡ none → Memᴰ p ps
     → try p ≡ none
 unfolding first
+none_tried try {ps = []} e h = elim h [ ]
 none_tried try {ps = q ∷ ps} e (Memᴰ.head h) = rw h (neither (try q) (first try ps) e).0
 none_tried try {ps = q ∷ ps} e (Memᴰ.tail m) = none_tried try (neither (try q) (first try ps) e).1 m
 
