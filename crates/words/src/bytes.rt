@@ -27,7 +27,7 @@ pub(crate) fn code_of(b: u8) -> u64
 }
 
 // What a run of characters may hold: white space, what a binder's name holds, what a name elsewhere holds.
-#[derive(Drop)]
+#[derive(Clone, Copy)]
 pub(crate) enum Run {
     White,
     Bound,

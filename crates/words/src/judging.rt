@@ -12,7 +12,7 @@ use crate::{Cursor, Judged, Word};
 use term::{Notation, Refusal};
 
 // Whether all characters are in the domain, or the offset of the first byte that is not.
-#[derive(Drop)]
+#[derive(Clone, Copy)]
 pub(crate) enum Domain {
     Inside,
     Outside(usize),

@@ -1,4 +1,6 @@
 // The words of a text: a cursor that moves forward over its bytes, and passes that judge any text by 3, 4 and 5.
+#![tactic(auto)]
+
 mod bytes;
 mod classic;
 mod de_bruijn;
@@ -19,21 +21,21 @@ use judging::{Domain, scan_domain, scan_words};
 use term::{Notation, Refusal};
 
 // A reading place: the bytes and the characters before it.
-#[derive(Drop)]
+#[derive(Clone, Copy)]
 pub struct Cursor {
     pub at: usize,
     pub chars: usize,
 }
 
 // A name is a place in the text: its bytes stand from one offset up to another.
-#[derive(Drop)]
+#[derive(Clone, Copy)]
 pub struct Name {
     pub from: usize,
     pub to: usize,
 }
 
 // A word, the end of the text, or a character that is invalid.
-#[derive(Drop)]
+#[derive(Clone, Copy)]
 pub enum Word {
     End,
     Binder(Name),
@@ -45,7 +47,7 @@ pub enum Word {
 }
 
 // A word and the place after it, or the place of what is invalid.
-#[derive(Drop)]
+#[derive(Clone, Copy)]
 pub struct Step {
     pub word: Word,
     pub next: Cursor,
@@ -110,7 +112,7 @@ impl Cursor {
 }
 
 // That a text passes, or why it does not.
-#[derive(Drop)]
+#[derive(Clone, Copy)]
 pub enum Judged {
     Fine,
     Refused(Refusal),
