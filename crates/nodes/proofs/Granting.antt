@@ -153,3 +153,5 @@ module _ (cap : ℕ) (out room : List ℕ) where
         rw (passes.allowed, passes.suffices)
         (ap₂ (λ p left. (p.0, p.1, left)) works
         (is ∙ cleared-again store' (long ∙ first-lent.room) ∙ ap (λ c. cleared c room) passes.same))
+
+pub ruleset granting_tests = (cap-zero, cap-too_great, output_too_little, room_too_little, cap_granted)

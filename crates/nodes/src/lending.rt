@@ -6,13 +6,14 @@ use calculus::{MOST_NODES, OUTPUT_PER_NODE, ROOM_PER_NODE};
 use term::Refusal;
 
 // The cap as a length, or 1 or 2.
-#[derive(Drop)]
+#[derive(Clone, Copy)]
 pub enum Granted {
     Cap(usize),
     Refused(Refusal),
 }
 
 // 1, then 2, from the cap and the lengths of the output and the room.
+#[tactic(auto, using(crate::proofs::Granting::granting_tests))]
 pub fn grant(cap: u64, output: usize, room: usize) -> Granted
     ensures { granted_told result ≡ granting cap output room }
 {

@@ -1,4 +1,6 @@
 // Numbered nodes in lent room, two numbers each: how they are made, loaded from coded bytes, saved to them and cleared.
+#![tactic(auto)]
+
 pub mod lending;
 pub mod reading;
 pub mod runs;
@@ -177,7 +179,7 @@ pub fn make_application(room: &mut [u64], used: usize, left: usize, right: usize
 }
 
 // The offset after a term that was loaded, and the number of the next node: the term is the node before it.
-#[derive(Drop)]
+#[derive(Clone, Copy)]
 pub struct Loaded {
     pub next: usize,
     pub used: usize,
