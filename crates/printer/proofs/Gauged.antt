@@ -6,7 +6,7 @@ use mathlib.Core.List.{List, []}
 use native.Mathlib.Omega.{arith}
 use lib.ListN.{length, drop, drop_of_length-le}
 use lib.Seq.{drop-drop}
-use Rattle.calculus.specs.Term.{Term, var, lam, app, nodes, height}
+use Rattle.calculus.specs.Term.{var, lam, app, nodes, height}
 use Rattle.calculus.specs.Bounds.{most_nodes, most_height}
 use Rattle.calculus.specs.Bytes.{found, under, beside, two_parts, whole, decode}
 use Rattle.calculus.specs.Queries.{max_depth}

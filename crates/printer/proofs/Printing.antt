@@ -13,7 +13,7 @@ use Rattle.calculus.specs.Bounds.{most_nodes, most_height}
 use Rattle.calculus.specs.Refusal.{given}
 use Rattle.calculus.specs.Queries.{max_depth}
 use Rattle.calculus.specs.Writing.{characters_written, write_text}
-use Rattle.calculus.specs.Outcomes.{stored, checked, print_of}
+use Rattle.calculus.specs.Outcomes.{checked, print_of}
 use Rattle.calculus.proofs.Coding.{AllBytes}
 use Rattle.calculus.proofs.Judged.{checked-given}
 use Rattle.calculus.proofs.Putting.{laid, puts-length}

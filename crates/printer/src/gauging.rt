@@ -124,7 +124,7 @@ fn gauge_part(
 }
 
 // A whole term within the bounds, with its most abstractions on a path and room enough for its text; or nothing known.
-#[derive(Drop)]
+#[derive(Clone, Copy)]
 pub(crate) enum Gauge {
     Term { most: u64, plenty: usize },
     Unknown,

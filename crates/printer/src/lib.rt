@@ -1,4 +1,6 @@
 // Both printers: the De Bruijn and the classic text of any coded term, written into a lent slice.
+#![tactic(auto)]
+
 mod gauging;
 mod pieces;
 pub mod putting;
@@ -20,7 +22,7 @@ use pieces::Style;
 use term::{Checked, Head, Notation, Refusal};
 
 // Which part of an application a term is, or none.
-#[derive(Drop)]
+#[derive(Clone, Copy)]
 enum Part {
     Whole,
     Left,
@@ -49,7 +51,7 @@ fn groups_application(part: Part) -> bool
 }
 
 // The offset after a term that was read, and the place after its text.
-#[derive(Drop)]
+#[derive(Clone, Copy)]
 struct Reached {
     next: usize,
     to: usize,
@@ -120,7 +122,7 @@ fn text_length(style: Style, s: &[u8]) -> usize
 }
 
 // Whether a text fits, or its length.
-#[derive(Drop)]
+#[derive(Clone, Copy)]
 enum Fit {
     Fits,
     Needs(usize),
@@ -143,7 +145,7 @@ fn judge_length(style: Style, plenty: usize, s: &[u8], room: usize) -> Fit
 }
 
 // What printing answers: the length of the text, or a refusal.
-#[derive(Drop)]
+#[derive(Clone, Copy)]
 pub enum Printed {
     Length(usize),
     Refused(Refusal),

@@ -98,7 +98,7 @@ fn put_named(out: &mut [u8], to: usize, most: u64, depth: u64, index: u64) -> us
 }
 
 // How a term is written: in which notation, and with how many abstractions on a path at most.
-#[derive(Drop)]
+#[derive(Clone, Copy)]
 pub(crate) struct Style {
     pub notation: Notation,
     pub most: u64,

@@ -16,22 +16,19 @@ pub(crate) struct Writer<'a> {
 
 // A writer at the start of a slice.
 fn begin<'a>(out: &'a mut [u8]) -> Writer<'a>
-    ensures { (result.out ≡ out.entry) × (result.place ≡ 0) }
+    ensures same_reference { result.out.ghost_name ≡ out.entry.ghost_name }
+    ensures at_start { (result.out ≡ out.entry) × (result.place ≡ 0) }
 {
     Writer { out: out, place: 0 }
 }
 
-// A whole term; the writer is handed back.
-fn write_term<'a, 'b>(w: Writer<'a>, style: Style, s: &'b [u8]) -> Writer<'a>
-    requires { Writable style s.now 0 0 Whole w.place most_height }
-    ensures { WritesOn style s.now w.entry result }
+// A whole term; the writer goes on behind it.
+fn write_term<'a, 'b>(w: &mut Writer<'a>, style: Style, s: &'b [u8])
+    requires { Writable style s.now 0 0 Whole w.old.place most_height }
+    ensures same_reference { w.new.out.ghost_name ≡ w.old.out.ghost_name }
+    ensures writes { WritesOn style s.now w.old w.new }
 {
-    let place = w.place;
-    let reached = crate::write_whole(&mut *w.out, place, style, s);
-    Writer {
-        out: w.out,
-        place: reached,
-    }
+    w.place = crate::write_whole(&mut *w.out, w.place, style, s);
 }
 
 // The place reached. The slice is as it was.
@@ -46,5 +43,7 @@ pub(crate) fn write(out: &mut [u8], style: Style, s: &[u8]) -> usize
     requires { Writable style s.now 0 0 Whole 0 most_height }
     ensures { WritesWhole style s.now out.old 0 result out.new }
 {
-    place_of(write_term(begin(out), style, s))
+    let mut w = begin(out);
+    write_term(&mut w, style, s);
+    place_of(w)
 }
