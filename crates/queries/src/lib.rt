@@ -1,4 +1,6 @@
 // The queries of a whole term: each takes any bytes, and answers or refuses by 10, then 7, then 9.
+#![tactic(auto)]
+
 ghost use Rattle.std.specs.Prelude.{◌≡◌};
 ghost use Rattle.calculus.specs.Outcomes.{nodes_of, height_of, max_depth_of, max_free_index_of};
 ghost use Rattle.calculus.specs.Outcomes.{has_free_variables_of, is_supercombinator_of, equality_of};
@@ -11,20 +13,20 @@ use calculus::{MOST_HEIGHT, MOST_NODES};
 use term::{Checked, Facts, Head, Refusal};
 
 // The answer of a query: a number or a refusal, a truth or a refusal.
-#[derive(Drop)]
+#[derive(Clone, Copy)]
 pub enum Number {
     Given(u64),
     Refused(Refusal),
 }
 
-#[derive(Drop)]
+#[derive(Clone, Copy)]
 pub enum Truth {
     Given(bool),
     Refused(Refusal),
 }
 
 // The queries whose answer is a number.
-#[derive(Drop)]
+#[derive(Clone, Copy)]
 enum Query {
     Nodes,
     Height,
@@ -134,7 +136,7 @@ fn same_head(a: Head, b: Head) -> bool
 }
 
 // Where two equal terms at one offset end, or that they differ.
-#[derive(Drop)]
+#[derive(Clone, Copy)]
 enum Same {
     Until(usize),
     Differs,
