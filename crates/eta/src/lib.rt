@@ -1,4 +1,6 @@
 // Eta of a coded term: the steps made, whether a place is left, and the bytes of the term reached.
+#![tactic(auto)]
+
 mod naming;
 mod shrinking;
 mod writing;

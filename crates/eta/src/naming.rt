@@ -26,7 +26,7 @@ pub(crate) const LEVEL: u64 = 8;
 const LONE_BINDS: u64 = 6;
 
 // The offset after a term, the number of the next node (the term is the one before it), and whether index 0 is in it.
-#[derive(Drop)]
+#[derive(Clone, Copy)]
 pub(crate) struct Read {
     pub(crate) next: usize,
     pub(crate) used: usize,

@@ -7,7 +7,7 @@ ghost use Rattle.eta.specs.Shrinks.{Bindable, Rebinds, Binds};
 use crate::naming::{JOINS, LEVEL, LONE};
 
 // The node that a term came to, the number of the next node, the steps made, and whether the limit left a place.
-#[derive(Drop)]
+#[derive(Clone, Copy)]
 pub(crate) struct Shrunk {
     pub(crate) node: usize,
     pub(crate) used: usize,
