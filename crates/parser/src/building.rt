@@ -8,14 +8,14 @@ use calculus::MOST_HEIGHT;
 use term::larger;
 
 // A term by its height, and by its node where it may still be within the bounds.
-#[derive(Drop)]
+#[derive(Clone, Copy)]
 pub(crate) struct Found {
     pub(crate) height: u64,
     pub(crate) node: usize,
 }
 
 // Nothing, a term, or something in it is empty.
-#[derive(Drop)]
+#[derive(Clone, Copy)]
 pub(crate) enum Part {
     Nothing,
     Term(Found),
@@ -23,7 +23,7 @@ pub(crate) enum Part {
 }
 
 // What was read, and how many nodes up to its end; they are counted also where they are not made.
-#[derive(Drop)]
+#[derive(Clone, Copy)]
 pub(crate) struct Built {
     pub(crate) part: Part,
     pub(crate) used: usize,

@@ -1,4 +1,6 @@
 // Reading text in both notations: the answer is the bytes of its term, or why there is none.
+#![tactic(auto)]
+
 mod building;
 mod sequences;
 mod tokens;
@@ -25,7 +27,7 @@ use term::{Notation, Refusal};
 use words::{Cursor, Judged};
 
 // The bytes that the term takes in the output, or why it has none.
-#[derive(Drop)]
+#[derive(Clone, Copy)]
 pub enum Parsed {
     Length(usize),
     Refused(Refusal),

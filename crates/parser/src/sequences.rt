@@ -13,7 +13,7 @@ use term::{Notation, Refusal};
 use words::Cursor;
 
 // What was read up to a place, and whether a `)` closed it there; or why a token is refused.
-#[derive(Drop)]
+#[derive(Clone, Copy)]
 pub(crate) enum Went {
     On {
         read: Built,

@@ -52,7 +52,7 @@ fn resolve(text: &[u8], stack: &[u64], count: usize, name: Name) -> u64
 }
 
 // A token and the place after it; what opens is 0 for a `(`, and the place of its name for a binder.
-#[derive(Drop)]
+#[derive(Clone, Copy)]
 pub(crate) enum Token {
     Index(u64, Cursor),
     Opening(u64, Cursor),

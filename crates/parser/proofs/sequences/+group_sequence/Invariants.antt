@@ -1,0 +1,19 @@
+-- `parser::sequences::sequence` and `group` meet their contracts, each turn by a law. The text that remains falls.
+use Prim.Native.Nat.{◌+◌, ◌*◌, ◌-◌}
+use lib.ListN.{length}
+use Rattle.term.specs.Notations.{notation_of}
+use Rattle.parser.proofs.Turns.{SoFar}
+use Rattle.parser.proofs.sequences.+group_sequence.Given as goal
+
+abbrev pub decreases-group : goal.decreases-group
+decreases-group l = 2 * (length l.text.now - l.from.at) + 1
+
+abbrev pub decreases-sequence : goal.decreases-sequence
+decreases-sequence l = 2 * (length l.text.now - l.from.at)
+
+abbrev pub invariant-sequence-loop-index : goal.invariant-sequence-loop-index
+invariant-sequence-loop-index l =
+    SoFar (notation_of l.notation) l.text l.initial.stack l.count l.initial.store l.cap l.initial.here l.base l.stack l.store l.here l.read
+
+abbrev pub decreases-sequence-loop-index : goal.decreases-sequence-loop-index
+decreases-sequence-loop-index l = length l.text - l.here.at
