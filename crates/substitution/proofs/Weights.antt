@@ -55,7 +55,7 @@ module _ {room : List ℕ} {body argument : ℕ} (asked : Weighable room body ar
           let few = (within 0 asked.put_term asked.term).few in
           (omega (arith, said.nodes_are), omega (arith, said.nodes_are, asked.few))
 
-      module _ {one : ℕ} (one_Has : one ≡ nodes_in (word room argument)) where
+      module _ {one : ℕ} (one_has : one ≡ nodes_in (word room argument)) where
         pub copies-low : found.copies * one ≤ most_nodes * most_nodes
         copies-low =
             let said = says room asked.put_term argument asked.holds_put in
@@ -78,7 +78,7 @@ module _ {room : List ℕ} {body argument : ℕ} (asked : Weighable room body ar
           height_is = λ b a h g. measured.height_is b a h (sym (tall_is ∙ (says room a argument g).height_is));
           nodes_are = λ b a h g.
               let counted = measured.copies b h in
-              let one_is = one_Has ∙ (says room a argument g).nodes_are in
+              let one_is = one_has ∙ (says room a argument g).nodes_are in
               let product : found.copies * one ≡ occurs 0 b * nodes a = rw (counted, one_is) in
               omega (arith, nodes-put 0 a b, (within 0 a b).few, (says room b body h).nodes_are);
         }

@@ -1,4 +1,6 @@
 // Contraction over shared nodes: free indices raised, the argument put in, and what the result will measure.
+#![tactic(auto)]
+
 pub mod weighing;
 
 ghost use Rattle.std.specs.Prelude.{◌≡◌, ◌≤◌};

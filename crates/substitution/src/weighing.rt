@@ -7,7 +7,7 @@ use nodes::UNKNOWN;
 use term::larger;
 
 // How often the argument is put in, the greatest depth at which it is (0 for none), and the height afterwards.
-#[derive(Drop)]
+#[derive(Clone, Copy)]
 struct Measured {
     copies: u64,
     deepest: u64,
@@ -99,7 +99,7 @@ fn bursts(room: &[u64], argument: usize, deepest: u64) -> bool
 
 // What a contraction gives: how often the argument is put in, whether an index grows past the greatest number (12), the
 // height (7), the nodes (9).
-#[derive(Drop)]
+#[derive(Clone, Copy)]
 pub struct Weight {
     pub copies: u64,
     pub bursts: bool,
