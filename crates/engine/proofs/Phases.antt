@@ -199,14 +199,14 @@ module _ {o : Order} {depth : ℕ} {a : Start} {l r : Term} {left right : ℕ} {
         kept_then : Together parted.steps depth a left right s.used room
             → Kept ran.steps (depth + 1) node s.used q (length after)
             → Together (parted.steps + ran.steps) depth a function argument q.used after
-        kept_then (together none_made l_is r_is used_is) (unmoved None_more node_is used_same) =
+        kept_then (together none_made l_is r_is used_is) (unmoved none_more node_is used_same) =
             let (left-same, right_same) = unmoved_are node_is in
             let begun = parted.parts.begun in
             let link_same = ran.same.kept (2 * a.node + 1) (omega (arith, parted.parts.grows)) in
             together (omega arith) (rw link_same (left-same ∙ l_is)) (rw link_same (right_same ∙ r_is))
             (used_same ∙ used_is)
         kept_then (together none_made l_is r_is used_is) (moved some room_left) = apart (omega arith) (omega arith)
-        kept_then (apart some room_left) (unmoved None_more node_is used_same) =
+        kept_then (apart some room_left) (unmoved none_more node_is used_same) =
             apart (omega arith) (omega (arith, ran.same.as_long))
         kept_then (apart some room_left) (moved more more_left) = apart (omega arith) (omega arith)
 

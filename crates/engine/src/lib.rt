@@ -1,4 +1,6 @@
 // Steps by an order on a term of numbered nodes: where the work is, under a budget, each next term judged.
+#![tactic(auto)]
+
 mod contracting;
 mod joining;
 mod moving;
@@ -16,7 +18,7 @@ use orders::Order;
 use term::Refusal;
 
 // How the steps end: how many were made, and the node of the term reached or why there is none.
-#[derive(Drop)]
+#[derive(Clone, Copy)]
 pub enum Reached {
     Finished { steps: u64, node: usize },
     Unfinished { steps: u64, node: usize },

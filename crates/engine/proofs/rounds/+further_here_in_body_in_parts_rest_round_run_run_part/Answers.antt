@@ -1,0 +1,578 @@
+-- `further` meets its contract: a round where there is no application, else the argument's run and what is left.
+-- `here` meets its contract: a contraction is made or is not, or the function part is no abstraction.
+-- `in_body` meets its contract: the body is left alone, or its run is that of the abstraction.
+-- `in_parts` meets its contract: the spine's run, then that in the argument, and what each comes to.
+-- The measures of the cycle: the depth, which rises at each run in a part, and after it the turn of the call.
+-- `rest` meets its contract: the function part's run, then that in the argument, and what each comes to.
+-- `round` meets its contract, by what the node says of its term.
+-- `run` meets its contract: each round goes on from the steps so far. The budget falls.
+-- `run_part` meets its contract: no run where the part is at rest.
+use Prim.Native.Nat.{ℕ}
+use mathlib.Core.Path.{refl, sym, ◌∙◌, ap}
+use native.Mathlib.Omega.{arith}
+use borrow.Author.Rules.{rules}
+use Rattle.orders.specs.Orders.{order_of}
+use Rattle.engine.specs.States.{State, standing, told, lent}
+use Rattle.engine.proofs.Runs.{turned_about, stays_shut, body_asks, rebind_asks, body-again, stays_normal, stays_variable, abstraction_asks, in_abstraction, application_asks, in_application, none_gone, ready-again, gone_on, gone_last}
+use Rattle.engine.proofs.Told.{told_is, parts_at, resting-lent, here-lent, gone_placed}
+use Rattle.engine.proofs.AtRest.{node-low, at_once}
+use Rattle.engine.proofs.Places.{FurtherRun, rejoined, as_application, as_it_was, rest_at_once, argument_asks, argument_halts, rest-after, SpineRun, ArgumentRun, spine_halts, spine-here, early_asks, early_halts, early_here, function_asks, function_halts, late_asks, late_halts}
+use Rattle.engine.proofs.Redexes.{contract_asks, contracted-ran, contracted_halts, no-abstraction, rest_asks, plain_halts}
+use Rattle.calculus.specs.Traits.{eager, late}
+use Rattle.engine.proofs.Phases.{begun, left_asks}
+use mathlib.Core.Bool.{not}
+use Rattle.engine.proofs.rounds.+further_here_in_body_in_parts_rest_round_run_run_part.Goals as goal
+use Rattle.engine.proofs.rounds.+further_here_in_body_in_parts_rest_round_run_run_part.Goals.{further-After-further-q, in_parts-After-run_part-p, in_parts-After-run_part-q, rest-After-further-p, rest-After-run_part-q}
+
+-- how the run stands after that in the argument
+abbrev further-argued : (t : ℕ) (c : further-After-further-q t) → State
+further-argued t c =
+    told c.further-q.result c.further-q.new.used c.further-q.new.budget c.further-q.new.spare
+
+argument-run : (t : ℕ) (c : further-After-further-q t)
+    → let a = c.args in
+    FurtherRun (order_of a.order) a.depth
+    (standing a.whole a.used.now a.budget.now a.spare.now) c.right_of-right.result
+    a.room.now (further-argued t c) c.further-q.new.room
+argument-run t c = record {
+  fit = search rules;
+  ran = c.further-q.ensures;
+}
+
+-- how the run stands after that in the function part, and after that in the argument
+abbrev spun : (t : ℕ) (c : in_parts-After-run_part-p t) → State
+spun t c =
+    told c.run_part-p.result c.run_part-p.new.used c.run_part-p.new.budget c.run_part-p.new.spare
+
+abbrev in_parts-argued : (t : ℕ) (c : in_parts-After-run_part-q t) → State
+in_parts-argued t c =
+    told c.run_part-q.result c.run_part-q.new.used c.run_part-q.new.budget c.run_part-q.new.spare
+
+spine-run : (t : ℕ) (c : in_parts-After-run_part-p t)
+    → let a = c.args in
+    SpineRun (order_of a.order) a.depth
+    (standing a.whole a.used.now a.budget.now a.spare.now) c.right_of-right.result
+    a.room.now (spun t c) c.run_part-p.new.room
+spine-run t c =
+    record {
+      right_is = c.right_of-right.ensures;
+      run = record {
+        fit = search rules;
+        runs = rw (c.spine.ensures, c.left_of.ensures) at c.run_part-p.ensures;
+      };
+    }
+
+early-run : (t : ℕ) (c : in_parts-After-run_part-q t)
+    →
+    let a = c.args in
+    ArgumentRun (eager (order_of a.order)) (order_of a.order) a.depth ((
+    told c.run_part-p.result c.run_part-p.new.used c.run_part-p.new.budget c.run_part-p.new.spare))
+    c.right_of-right.result c.run_part-p.new.room (in_parts-argued t c) c.run_part-q.new.room
+early-run t c =
+    record {
+      at_rest = sym c.right_of-halt.ensures ∙ c.if-halt-ne-RESTED.false;
+      on = turned_about c.eager.ensures (ap not c.if-not-eager.false);
+      run = record {
+        fit = search rules;
+        runs = c.run_part-q.ensures;
+      };
+    }
+
+-- how the run stands after that in the function part, and after that in the argument
+abbrev reduced : (t : ℕ) (c : rest-After-further-p t) → State
+reduced t c =
+    told c.further-p.result c.further-p.new.used c.further-p.new.budget c.further-p.new.spare
+
+abbrev rest-argued : (t : ℕ) (c : rest-After-run_part-q t) → State
+rest-argued t c =
+    told c.run_part-q.result c.run_part-q.new.used c.run_part-q.new.budget c.run_part-q.new.spare
+
+left-run : (t : ℕ) (c : rest-After-further-p t)
+    → let a = c.args in
+    FurtherRun (order_of a.order) a.depth (lent a.used.now a.budget.now a.spare.now) a.left
+    a.room.now (reduced t c) c.further-p.new.room
+left-run t c = record {
+  fit = search rules;
+  ran = c.further-p.ensures;
+}
+
+late-run : (t : ℕ) (c : rest-After-run_part-q t)
+    →
+    let a = c.args in
+    ArgumentRun (late (order_of a.order)) (order_of a.order) a.depth ((
+    told c.further-p.result c.further-p.new.used c.further-p.new.budget c.further-p.new.spare)) a.right
+    c.further-p.new.room (rest-argued t c) c.run_part-q.new.room
+late-run t c =
+    record {
+      at_rest = sym c.right_of-halt.ensures ∙ c.if-halt-ne-RESTED.false;
+      on = turned_about c.late.ensures (ap not c.if-not-late.false);
+      run = record {
+        fit = search rules;
+        runs = c.run_part-q.ensures;
+      };
+    }
+
+pub further-pair-requires : goal.further-pair-requires
+further-pair-requires t c =
+    (node-low c.requires.1.ready, omega arith)
+
+pub further-returns-then-at_rest : goal.further-returns-then-at_rest
+further-returns-then-at_rest t c =
+    λ u rested.
+    (at_once (c.at_rest.ensures c.if-at_rest.true)
+    (told_is c.args.whole 0 c.pair.ensures (node-low rested.ready))).ran u rested.ready
+
+pub further-round-requires : goal.further-round-requires
+further-round-requires t c =
+    let (u, rested) = c.requires in
+    (omega (arith, c.decreases), (u, rested.ready))
+
+pub further-returns-then-kind_of-ne3 : goal.further-returns-then-kind_of-ne3
+further-returns-then-kind_of-ne3 t c =
+    λ u rested. c.round.ensures u rested.ready
+
+pub further-rest-requires : goal.further-rest-requires
+further-rest-requires t c =
+    let (u, rested) = c.requires in
+    let fork = as_application rested c.kind_of.ensures c.if-kind_of-ne3.false in
+    let lazy = turned_about c.eager.ensures (ap not c.if-not-eager.true) in (
+      omega (arith, c.decreases),
+      (
+        _,
+        _,
+        _,
+        resting-lent refl refl (rest_at_once fork c.left_of-left.ensures
+            c.right_of-right.ensures lazy),
+      ),
+    )
+
+pub further-returns-then-not-eager : goal.further-returns-then-not-eager
+further-returns-then-not-eager t c =
+    let lazy = turned_about c.eager.ensures (ap not c.if-not-eager.true) in
+    λ u rested.
+    let fork = as_application rested c.kind_of.ensures c.if-kind_of-ne3.false in
+    as_it_was rested c.kind_of.ensures c.if-kind_of-ne3.false
+    (c.rest.ensures _ _ _ (resting-lent refl refl (rest_at_once fork c.left_of-left.ensures
+    c.right_of-right.ensures lazy)))
+
+pub further-overflow_add-depth : goal.further-overflow_add-depth
+further-overflow_add-depth t c =
+    let (u, rested) = c.requires in
+    let fork = as_application rested c.kind_of.ensures c.if-kind_of-ne3.false in
+    let on = turned_about c.eager.ensures (ap not c.if-not-eager.false) in
+    omega (arith, (argument_asks fork c.left_of-left.ensures c.right_of-right.ensures on).ready.deep)
+
+pub further-further-q-requires : goal.further-further-q-requires
+further-further-q-requires t c =
+    let (u, rested) = c.requires in
+    let fork = as_application rested c.kind_of.ensures c.if-kind_of-ne3.false in
+    let on = turned_about c.eager.ensures (ap not c.if-not-eager.false) in
+    let asks = argument_asks fork c.left_of-left.ensures c.right_of-right.ensures on in
+    (omega (arith, c.decreases, asks.ready.deep), (_, asks))
+
+pub further-rejoin-requires : goal.further-rejoin-requires
+further-rejoin-requires t c =
+    let (u, rested) = c.requires in
+    let fork = as_application rested c.kind_of.ensures c.if-kind_of-ne3.false in
+    let on = turned_about c.eager.ensures (ap not c.if-not-eager.false) in
+    let halts = argument_halts fork c.left_of-left.ensures c.right_of-right.ensures on
+    (argument-run t (goal.at.further-rejoin-requires t c).After-further-q)
+    (λ e. c.if-stop-ne-RESTED.true (c.right_of-stop.ensures ∙ e)) in (
+      (_, _, _, _, _, parts_at refl c.left_of-argument.ensures halts.parted.parts, refl),
+      omega (arith, c.right_of-stop.ensures, c.further-q.type_inv),
+    )
+
+pub further-returns-then-stop-ne-RESTED : goal.further-returns-then-stop-ne-RESTED
+further-returns-then-stop-ne-RESTED t c =
+    let on = turned_about c.eager.ensures (ap not c.if-not-eager.false) in
+    λ u rested.
+    let fork = as_application rested c.kind_of.ensures c.if-kind_of-ne3.false in
+    as_it_was rested c.kind_of.ensures c.if-kind_of-ne3.false
+    (rejoined (argument_halts fork c.left_of-left.ensures c.right_of-right.ensures on
+    (argument-run t (goal.at.further-returns-then-stop-ne-RESTED t c).After-further-q)
+    (λ e. c.if-stop-ne-RESTED.true (c.right_of-stop.ensures ∙ e))) refl
+    (rw c.left_of-argument.ensures at (c.rejoin.ensures (further-argued t (goal.at.further-returns-then-stop-ne-RESTED t c).After-further-q)
+    (sym c.right_of-stop.ensures))))
+
+pub further-rest-requires-2 : goal.further-rest-requires-2
+further-rest-requires-2 t c =
+    let (u, rested) = c.requires in
+    let fork = as_application rested c.kind_of.ensures c.if-kind_of-ne3.false in
+    let on = turned_about c.eager.ensures (ap not c.if-not-eager.false) in
+    let zero = sym c.right_of-stop.ensures ∙ c.if-stop-ne-RESTED.false in
+    let resting = rest-after fork c.left_of-left.ensures c.right_of-right.ensures on
+    (argument-run t (goal.at.further-rest-requires-2 t c).After-further-q) zero in
+    (omega (arith, c.decreases), (_, _, _, resting-lent refl c.left_of-argument.ensures resting))
+
+pub further-returns : goal.further-returns
+further-returns t c =
+    let on = turned_about c.eager.ensures (ap not c.if-not-eager.false) in
+    let zero = sym c.right_of-stop.ensures ∙ c.if-stop-ne-RESTED.false in
+    λ u rested.
+    let fork = as_application rested c.kind_of.ensures c.if-kind_of-ne3.false in
+    let resting = rest-after fork c.left_of-left.ensures c.right_of-right.ensures on
+    (argument-run t (goal.at.further-returns t c).After-further-q) zero in
+    as_it_was rested c.kind_of.ensures c.if-kind_of-ne3.false
+    (c.rest-2.ensures _ _ _ (resting-lent refl c.left_of-argument.ensures resting))
+
+pub here-contract-c-requires : goal.here-contract-c-requires
+here-contract-c-requires t c =
+    contract_asks c.requires.3 c.kind_of.ensures c.if-kind_of-eq2.true
+
+pub here-returns-then-stop-eq-STEPPED : goal.here-returns-then-stop-eq-STEPPED
+here-returns-then-stop-eq-STEPPED t c =
+    λ a l r here.
+    contracted-ran here c.kind_of.ensures c.if-kind_of-eq2.true c.contract-c.ensures
+    (sym c.right_of-stop.ensures ∙ c.if-stop-eq-STEPPED.true)
+
+pub here-rejoin-requires : goal.here-rejoin-requires
+here-rejoin-requires t c =
+    let here = c.requires.3 in
+    let halts = contracted_halts here c.kind_of.ensures c.if-kind_of-eq2.true
+    c.contract-c.ensures
+    (λ e. c.if-stop-eq-STEPPED.false (c.right_of-stop.ensures ∙ e)) in (
+      (_, _, _, _, _, halts.parted.parts, here.at_whole),
+      omega (
+        arith,
+        c.right_of-stop.ensures,
+        c.contract-c.type_inv,
+      ),
+    )
+
+pub here-returns-then-kind_of-eq2 : goal.here-returns-then-kind_of-eq2
+here-returns-then-kind_of-eq2 t c =
+    λ a l r here.
+    let halts = contracted_halts here c.kind_of.ensures c.if-kind_of-eq2.true
+    c.contract-c.ensures
+    (λ e. c.if-stop-eq-STEPPED.false (c.right_of-stop.ensures ∙ e)) in
+    rejoined halts here.at_whole (c.rejoin.ensures _ (sym c.right_of-stop.ensures))
+
+pub here-rest-requires : goal.here-rest-requires
+here-rest-requires t c =
+    let here = c.requires.3 in
+    let on = sym c.hybrid.ensures ∙ c.if-hybrid.true in (
+      omega (arith, c.decreases),
+      (_, _, _, rest_asks here (no-abstraction here c.kind_of.ensures c.if-kind_of-eq2.false) on),
+    )
+
+pub here-returns-then-hybrid : goal.here-returns-then-hybrid
+here-returns-then-hybrid t c =
+    let on = sym c.hybrid.ensures ∙ c.if-hybrid.true in
+    λ a l r here.
+    c.rest.ensures _ _ _ (rest_asks here (no-abstraction here c.kind_of.ensures
+    c.if-kind_of-eq2.false) on)
+
+pub here-rejoin-requires-2 : goal.here-rejoin-requires-2
+here-rejoin-requires-2 t c =
+    let here = c.requires.3 in
+    ((_, _, _, _, _, here.parted.parts, here.at_whole), omega arith)
+
+pub here-returns : goal.here-returns
+here-returns t c =
+    let off = sym c.hybrid.ensures ∙ c.if-hybrid.false in
+    λ a l r here.
+    let halts = plain_halts here (no-abstraction here c.kind_of.ensures c.if-kind_of-eq2.false) off in
+    rejoined halts here.at_whole (c.rejoin-2.ensures _ refl)
+
+pub in_body-pair-requires : goal.in_body-pair-requires
+in_body-pair-requires t c =
+    (node-low c.requires.1, omega arith)
+
+pub in_body-returns-then-not-enters : goal.in_body-returns-then-not-enters
+in_body-returns-then-not-enters t c =
+    λ b ready.
+    stays_shut ready (turned_about c.enters.ensures (ap not c.if-not-enters.true))
+    (told_is c.args.whole 0 c.pair.ensures (node-low ready))
+
+pub in_body-overflow_add-depth : goal.in_body-overflow_add-depth
+in_body-overflow_add-depth t c =
+    omega (arith, (body_asks c.requires.1).deep)
+
+pub in_body-run_part-b-requires : goal.in_body-run_part-b-requires
+in_body-run_part-b-requires t c =
+    let asks = body_asks c.requires.1 in
+    (omega (arith, c.decreases, asks.deep), (_, asks))
+
+pub in_body-rebind-requires : goal.in_body-rebind-requires
+in_body-rebind-requires t c =
+    (_, _, _, _, _, _, rebind_asks c.requires.1 c.run_part-b.ensures, refl)
+
+pub in_body-returns : goal.in_body-returns
+in_body-returns t c =
+    λ b ready.
+    let runs = c.run_part-b.ensures in
+    body-again ready runs (turned_about c.enters.ensures (ap not c.if-not-enters.false))
+    (c.rebind.ensures _ _ _ _ _ _ (rebind_asks ready runs) refl)
+
+pub in_parts-overflow_add-depth : goal.in_parts-overflow_add-depth
+in_parts-overflow_add-depth t c =
+    let (l, r, ready) = c.requires in
+    omega (arith, (left_asks (begun (order_of c.args.order) refl refl ready)).deep)
+
+pub in_parts-run_part-p-requires : goal.in_parts-run_part-p-requires
+in_parts-run_part-p-requires t c =
+    let (l, r, ready) = c.requires in
+    let asks = left_asks (begun (order_of c.args.order) refl refl ready) in
+    (omega (arith, c.decreases, asks.deep), (l, rw c.left_of.ensures asks))
+
+pub in_parts-rejoin-requires : goal.in_parts-rejoin-requires
+in_parts-rejoin-requires t c =
+    let halts = spine_halts c.requires.2 (spine-run t (goal.at.in_parts-rejoin-requires t c).After-run_part-p)
+    (λ e. c.if-halt-ne-RESTED.true (c.right_of-halt.ensures ∙ e)) in (
+      (_, _, _, _, _, parts_at c.left_of-left.ensures refl halts.parted.parts, refl),
+      omega (arith, c.right_of-halt.ensures, c.run_part-p.type_inv),
+    )
+
+pub in_parts-returns-then-halt-ne-RESTED : goal.in_parts-returns-then-halt-ne-RESTED
+in_parts-returns-then-halt-ne-RESTED t c =
+    λ l r ready.
+    rejoined (spine_halts ready (spine-run t (goal.at.in_parts-returns-then-halt-ne-RESTED t c).After-run_part-p)
+    (λ e. c.if-halt-ne-RESTED.true (c.right_of-halt.ensures ∙ e))) refl
+    (rw c.left_of-left.ensures at (c.rejoin.ensures (spun t (goal.at.in_parts-returns-then-halt-ne-RESTED t c).After-run_part-p)
+    (sym c.right_of-halt.ensures)))
+
+pub in_parts-here-requires : goal.in_parts-here-requires
+in_parts-here-requires t c =
+    let lazy = turned_about c.eager.ensures (ap not c.if-not-eager.true) in
+    let zero = sym c.right_of-halt.ensures ∙ c.if-halt-ne-RESTED.false in
+    let here = spine-here c.requires.2 (spine-run t (goal.at.in_parts-here-requires t c).After-run_part-p) zero lazy in
+    (omega (arith, c.decreases), (_, _, _, here-lent c.left_of-left.ensures refl here))
+
+pub in_parts-returns-then-not-eager : goal.in_parts-returns-then-not-eager
+in_parts-returns-then-not-eager t c =
+    let lazy = turned_about c.eager.ensures (ap not c.if-not-eager.true) in
+    let zero = sym c.right_of-halt.ensures ∙ c.if-halt-ne-RESTED.false in
+    λ l r ready.
+    let here = spine-here ready (spine-run t (goal.at.in_parts-returns-then-not-eager t c).After-run_part-p) zero lazy in
+    c.here.ensures _ _ _ (here-lent c.left_of-left.ensures refl here)
+
+pub in_parts-overflow_add-depth-2 : goal.in_parts-overflow_add-depth-2
+in_parts-overflow_add-depth-2 t c =
+    omega (arith, (early_asks c.requires.2 (spine-run t (goal.at.in_parts-overflow_add-depth-2 t c).After-run_part-p)).deep)
+
+pub in_parts-run_part-q-requires : goal.in_parts-run_part-q-requires
+in_parts-run_part-q-requires t c =
+    let asks = early_asks c.requires.2 (spine-run t (goal.at.in_parts-run_part-q-requires t c).After-run_part-p) in
+    (omega (arith, c.decreases, asks.deep), (_, asks))
+
+pub in_parts-rejoin-requires-then-stop-ne-RESTED : goal.in_parts-rejoin-requires-then-stop-ne-RESTED
+in_parts-rejoin-requires-then-stop-ne-RESTED t c =
+    let halts = early_halts c.requires.2 (spine-run t (goal.at.in_parts-rejoin-requires-then-stop-ne-RESTED t c).After-run_part-p) (early-run t (goal.at.in_parts-rejoin-requires-then-stop-ne-RESTED t c).After-run_part-q)
+    (λ e. c.if-stop-ne-RESTED.true (c.right_of-stop.ensures ∙ e)) in (
+      (
+        _,
+        _,
+        _,
+        _,
+        _,
+        parts_at c.left_of-left.ensures c.left_of-argument.ensures
+            halts.parted.parts,
+        refl,
+      ),
+      omega (arith, c.right_of-stop.ensures, c.run_part-q.type_inv),
+    )
+
+pub in_parts-returns-then-stop-ne-RESTED : goal.in_parts-returns-then-stop-ne-RESTED
+in_parts-returns-then-stop-ne-RESTED t c =
+    λ l r ready.
+    rejoined (early_halts ready (spine-run t (goal.at.in_parts-returns-then-stop-ne-RESTED t c).After-run_part-p) (early-run t (goal.at.in_parts-returns-then-stop-ne-RESTED t c).After-run_part-q)
+    (λ e. c.if-stop-ne-RESTED.true (c.right_of-stop.ensures ∙ e))) refl
+    (rw (c.left_of-left.ensures, c.left_of-argument.ensures) at
+    (c.rejoin-then-stop-ne-RESTED.ensures (in_parts-argued t (goal.at.in_parts-returns-then-stop-ne-RESTED t c).After-run_part-q) (sym c.right_of-stop.ensures)))
+
+pub in_parts-here-requires-2 : goal.in_parts-here-requires-2
+in_parts-here-requires-2 t c =
+    let zero = sym c.right_of-stop.ensures ∙ c.if-stop-ne-RESTED.false in
+    let here = early_here c.requires.2 (spine-run t (goal.at.in_parts-here-requires-2 t c).After-run_part-p) (early-run t (goal.at.in_parts-here-requires-2 t c).After-run_part-q) zero in (
+      omega (arith, c.decreases),
+      (
+        _,
+        _,
+        _,
+        here-lent c.left_of-left.ensures
+            c.left_of-argument.ensures here,
+      ),
+    )
+
+pub in_parts-returns : goal.in_parts-returns
+in_parts-returns t c =
+    let zero = sym c.right_of-stop.ensures ∙ c.if-stop-ne-RESTED.false in
+    λ l r ready.
+    let here = early_here ready (spine-run t (goal.at.in_parts-returns t c).After-run_part-p) (early-run t (goal.at.in_parts-returns t c).After-run_part-q) zero in
+    c.here-2.ensures _ _ _ (here-lent c.left_of-left.ensures c.left_of-argument.ensures here)
+
+pub rest-overflow_add-depth : goal.rest-overflow_add-depth
+rest-overflow_add-depth t c =
+    omega (arith, (function_asks c.requires.3).ready.deep)
+
+pub rest-further-p-requires : goal.rest-further-p-requires
+rest-further-p-requires t c =
+    let asks = function_asks c.requires.3 in
+    (omega (arith, c.decreases, asks.ready.deep), (_, asks))
+
+pub rest-rejoin-requires : goal.rest-rejoin-requires
+rest-rejoin-requires t c =
+    let resting = c.requires.3 in
+    let halts = function_halts resting (left-run t (goal.at.rest-rejoin-requires t c).After-further-p) (λ e. absurd
+    (c.if-halt-ne-RESTED.true (c.right_of-halt.ensures ∙ e))) in (
+      (_, _, _, _, _, parts_at c.left_of-function.ensures refl halts.parted.parts, resting.at_whole),
+      omega (arith, c.right_of-halt.ensures, c.further-p.type_inv),
+    )
+
+pub rest-returns-then-halt-ne-RESTED : goal.rest-returns-then-halt-ne-RESTED
+rest-returns-then-halt-ne-RESTED t c =
+    λ a l r resting.
+    let halts = function_halts resting (left-run t (goal.at.rest-returns-then-halt-ne-RESTED t c).After-further-p) (λ e. absurd
+    (c.if-halt-ne-RESTED.true (c.right_of-halt.ensures ∙ e))) in
+    rejoined halts resting.at_whole
+    (rw c.left_of-function.ensures at (c.rejoin.ensures (reduced t (goal.at.rest-returns-then-halt-ne-RESTED t c).After-further-p)
+    (sym c.right_of-halt.ensures)))
+
+pub rest-rejoin-requires-then-not-late : goal.rest-rejoin-requires-then-not-late
+rest-rejoin-requires-then-not-late t c =
+    let resting = c.requires.3 in
+    let halts = function_halts resting (left-run t (goal.at.rest-rejoin-requires-then-not-late t c).After-further-p)
+    (λ e. turned_about c.late.ensures (ap not c.if-not-late.true)) in (
+      (_, _, _, _, _, parts_at c.left_of-function.ensures refl halts.parted.parts, resting.at_whole),
+      omega
+          arith,
+    )
+
+pub rest-returns-then-not-late : goal.rest-returns-then-not-late
+rest-returns-then-not-late t c =
+    λ a l r resting.
+    let halts = function_halts resting (left-run t (goal.at.rest-returns-then-not-late t c).After-further-p)
+    (λ e. turned_about c.late.ensures (ap not c.if-not-late.true)) in
+    rejoined halts resting.at_whole
+    (rw c.left_of-function.ensures at (c.rejoin-then-not-late.ensures (reduced t (goal.at.rest-returns-then-not-late t c).After-further-p)
+    (sym c.right_of-halt.ensures ∙ c.if-halt-ne-RESTED.false)))
+
+pub rest-overflow_add-depth-2 : goal.rest-overflow_add-depth-2
+rest-overflow_add-depth-2 t c =
+    omega (arith, (late_asks c.requires.3 (left-run t (goal.at.rest-overflow_add-depth-2 t c).After-further-p)).deep)
+
+pub rest-run_part-q-requires : goal.rest-run_part-q-requires
+rest-run_part-q-requires t c =
+    let asks = late_asks c.requires.3 (left-run t (goal.at.rest-run_part-q-requires t c).After-further-p) in
+    (omega (arith, c.decreases, asks.deep), (_, asks))
+
+pub rest-rejoin-requires-2 : goal.rest-rejoin-requires-2
+rest-rejoin-requires-2 t c =
+    let resting = c.requires.3 in
+    let halts = late_halts resting (left-run t (goal.at.rest-rejoin-requires-2 t c).After-further-p) (late-run t (goal.at.rest-rejoin-requires-2 t c).After-run_part-q) in (
+      (
+        _,
+        _,
+        _,
+        _,
+        _,
+        parts_at c.left_of-function.ensures c.left_of-argument.ensures
+            halts.parted.parts,
+        resting.at_whole,
+      ),
+      omega (arith, c.right_of.ensures, c.run_part-q.type_inv),
+    )
+
+pub rest-returns : goal.rest-returns
+rest-returns t c =
+    λ a l r resting.
+    rejoined (late_halts resting (left-run t (goal.at.rest-returns t c).After-further-p) (late-run t (goal.at.rest-returns t c).After-run_part-q)) resting.at_whole
+    (rw (c.left_of-function.ensures, c.left_of-argument.ensures) at
+    (c.rejoin-2.ensures (rest-argued t (goal.at.rest-returns t c).After-run_part-q) (sym c.right_of.ensures)))
+
+pub round-pair-requires : goal.round-pair-requires
+round-pair-requires t c =
+    (node-low c.requires.1, omega arith)
+
+pub round-returns-then-normal_of-eq1 : goal.round-returns-then-normal_of-eq1
+round-returns-then-normal_of-eq1 t c =
+    λ u ready.
+    stays_normal ready c.normal_of.ensures c.if-normal_of-eq1.true
+    (told_is c.args.node 0 c.pair.ensures (node-low ready))
+
+pub round-pair-requires-then-kind-eq1 : goal.round-pair-requires-then-kind-eq1
+round-pair-requires-then-kind-eq1 t c =
+    (node-low c.requires.1, omega arith)
+
+pub round-returns-then-kind-eq1 : goal.round-returns-then-kind-eq1
+round-returns-then-kind-eq1 t c =
+    λ u ready.
+    stays_variable ready c.kind_of-kind.ensures c.if-kind-eq1.true
+    (told_is c.args.node 0 c.pair-then-kind-eq1.ensures (node-low ready))
+
+pub round-in_body-requires : goal.round-in_body-requires
+round-in_body-requires t c = (
+  omega (arith, c.decreases),
+  abstraction_asks c.requires.1 c.kind_of-kind.ensures
+      c.if-kind-eq2.true,
+)
+
+pub round-returns-then-kind-eq2 : goal.round-returns-then-kind-eq2
+round-returns-then-kind-eq2 t c =
+    λ u ready. in_abstraction ready c.kind_of-kind.ensures c.if-kind-eq2.true c.in_body.ensures
+
+pub round-in_parts-requires : goal.round-in_parts-requires
+round-in_parts-requires t c = (
+  omega (arith, c.decreases),
+  application_asks c.requires.1 c.kind_of-kind.ensures
+      c.if-kind-eq1.false c.if-kind-eq2.false,
+)
+
+pub round-returns : goal.round-returns
+round-returns t c =
+    λ u ready. in_application ready c.kind_of-kind.ensures c.if-kind-eq1.false c.if-kind-eq2.false
+    c.in_parts.ensures
+
+pub run-loop-order-init : goal.run-loop-order-init
+run-loop-order-init t c =
+    λ u ready. none_gone ready 0
+
+pub run-round-q-requires : goal.run-round-q-requires
+run-round-q-requires t c =
+    let ready = c.requires.1 in
+    (omega (arith, c.decreases), (_, ready-again ready (c.loop-order.invariant _ ready)))
+
+pub run-shape_of-room-then-right_of-ne-STEPPED : goal.run-shape_of-room-then-right_of-ne-STEPPED
+run-shape_of-room-then-right_of-ne-STEPPED t c =
+    c.round-q.auto.room ∙ (c.loop-order.invariant _ c.requires.1).same.as_long
+
+pub run-returns-then-right_of-ne-STEPPED : goal.run-returns-then-right_of-ne-STEPPED
+run-returns-then-right_of-ne-STEPPED t c =
+    record {
+      ran = λ u ready.
+          let gone = c.loop-order.invariant u ready in
+          gone_last ready gone (c.round-q.ensures gone.term (ready-again ready gone))
+          (λ one. c.if-right_of-ne-STEPPED.true (c.right_of.ensures ∙ one));
+      ended = λ one. c.if-right_of-ne-STEPPED.true (c.right_of.ensures ∙ one);
+    }
+
+pub run-loop-order-smaller : goal.run-loop-order-smaller
+run-loop-order-smaller t c =
+    let ready = c.requires.1 in
+    let gone = c.loop-order.invariant _ ready in
+    let ran = c.round-q.ensures gone.term (ready-again ready gone) in
+    omega (arith, ran.count, ran.turned (sym c.right_of.ensures ∙ c.if-right_of-ne-STEPPED.false))
+
+pub run-loop-order-preserved : goal.run-loop-order-preserved
+run-loop-order-preserved t c =
+    λ u ready.
+    let gone = c.loop-order.invariant u ready in
+    gone_placed c.left_of-node.ensures
+    (gone_on ready gone (c.round-q.ensures gone.term (ready-again ready gone)))
+
+pub run_part-pair-requires : goal.run_part-pair-requires
+run_part-pair-requires t c =
+    (node-low c.requires.1, omega arith)
+
+pub run_part-returns-then-at_rest : goal.run_part-returns-then-at_rest
+run_part-returns-then-at_rest t c =
+    at_once (c.at_rest.ensures c.if-at_rest.true)
+    (told_is c.args.node 0 c.pair.ensures (node-low c.requires.1))
+
+pub run_part-run-requires : goal.run_part-run-requires
+run_part-run-requires t c =
+    (omega (arith, c.decreases), c.requires)
+
+pub run_part-returns : goal.run_part-returns
+run_part-returns t c =
+    c.run.ensures
