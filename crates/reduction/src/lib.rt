@@ -1,4 +1,6 @@
 // Applying one coded term to another: the answer is the bytes of the contraction, or why there is none.
+#![tactic(auto)]
+
 pub mod reducing;
 
 ghost use Rattle.std.specs.Prelude.{◌≡◌};
@@ -17,7 +19,7 @@ use substitution::weighing::weigh;
 use term::{Checked, Head, Refusal};
 
 // The bytes that the contraction takes in the output, or why it has none.
-#[derive(Drop)]
+#[derive(Clone, Copy)]
 pub enum Applied {
     Length(usize),
     Refused(Refusal),
