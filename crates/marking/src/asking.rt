@@ -11,7 +11,7 @@ use orders::Order;
 use term::Notation;
 
 // What the line asks for, and where the text after it begins.
-#[derive(Drop)]
+#[derive(Clone, Copy)]
 pub(crate) enum Asked {
     Job {
         order: Order,
@@ -23,13 +23,13 @@ pub(crate) enum Asked {
 }
 
 // The order, and the notation, that a word names.
-#[derive(Drop)]
+#[derive(Clone, Copy)]
 enum NamedOrder {
     Known(Order),
     Unknown,
 }
 
-#[derive(Drop)]
+#[derive(Clone, Copy)]
 enum NamedNotation {
     Known(Notation),
     Unknown,

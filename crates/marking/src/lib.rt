@@ -1,4 +1,6 @@
 // The program's work: from the bytes that it reads to the bytes that it writes.
+#![tactic(auto)]
+
 mod asking;
 mod telling;
 

@@ -1,0 +1,47 @@
+-- `marking::do_job` meets its contract: 1 for the limit, then the text's refusal or the run of its term.
+use mathlib.Core.Path.{◌≡◌, sym, ◌∙◌}
+use mathlib.Core.Bool.{true}
+use native.Mathlib.Omega.{arith}
+use lib.Seq.{length-take-le}
+use Rattle.calculus.specs.Bounds.{program_cap}
+use Rattle.calculus.specs.Reading.{read_text}
+use Rattle.calculus.specs.Outcomes.{limit_allowed}
+use Rattle.term.specs.Notations.{notation_of}
+use Rattle.marking.proofs.Jobs.{Read, given_at, refused_at, limit-refused, text-refused, text-run}
+use Rattle.marking.proofs.do_job.Goals as goal
+use Rattle.marking.proofs.do_job.Goals.{Else-not-allowed, In-Length}
+
+-- the limit is within its bounds
+in_bounds : (c : Else-not-allowed) → limit_allowed c.args.limit ≡ true
+in_bounds c = sym c.allowed.ensures ∙ c.if-not-allowed.false
+
+-- the term that was read
+read : (c : In-Length) → let args = c.args in
+    Read (read_text (notation_of args.notation) program_cap args.text.now) c.in-Length.length
+    c.parse.new.out
+read c =
+    given_at _ _ _ _ (omega arith) (omega arith) c.parse.ensures c.in-Length.is
+
+pub returns-then-not-allowed : goal.returns-then-not-allowed
+returns-then-not-allowed c =
+    limit-refused _ _ _ _ (sym c.allowed.ensures ∙ c.if-not-allowed.true)
+    c.put_refusal.ensures
+
+pub slice_bounds-coded-end : goal.slice_bounds-coded-end
+slice_bounds-coded-end c = (read (goal.at.slice_bounds-coded-end c).In-Length).at_start.inside
+
+pub slice_bounds-reduce-end : goal.slice_bounds-reduce-end
+slice_bounds-reduce-end c = sym (length-take-le _ _ (read (goal.at.slice_bounds-reduce-end c).In-Length).at_start.inside)
+
+pub reduce-requires : goal.reduce-requires
+reduce-requires c =
+    record { allowed = in_bounds (goal.at.reduce-requires c).Else-not-allowed; work = omega arith; output = c.requires }
+
+pub returns-in-Length : goal.returns-in-Length
+returns-in-Length c =
+    text-run _ _ _ _ (in_bounds (goal.at.returns-in-Length c).Else-not-allowed) (read (goal.at.returns-in-Length c).In-Length) c.reduce.ensures
+
+pub returns-in-Refused : goal.returns-in-Refused
+returns-in-Refused c =
+    let reads = refused_at _ _ _ _ (omega arith) (omega arith) c.parse.ensures c.in-Refused.is in
+    text-refused _ _ _ _ (in_bounds (goal.at.returns-in-Refused c).Else-not-allowed) reads c.put_refusal-in-Refused.ensures
