@@ -1,4 +1,7 @@
-// The exported entry points, for C and Rust: each takes any bytes and any numbers, and answers in six numbers.
+// The entry points, which copperjangle_c exports for C and Rust: each takes any bytes and any numbers, and answers in
+// six numbers.
+#![tactic(auto)]
+
 mod telling;
 
 ghost use Rattle.std.specs.Prelude.{◌<◌, ◌≡◌};
@@ -18,7 +21,7 @@ use term::{Notation, Refusal};
 
 // An answer in numbers. What a field is not said to hold, it holds 0.
 #[repr(C)]
-#[derive(Drop)]
+#[derive(Clone, Copy)]
 pub struct Answer {
     // 0, or the number of the refusal
     pub refusal: u64,
@@ -64,57 +67,49 @@ fn order_numbered(number: u64) -> Order
     }
 }
 
-#[unsafe(no_mangle)]
-pub extern "C" fn copperjangle_nodes(term: &[u8]) -> Answer
+pub fn copperjangle_nodes(term: &[u8]) -> Answer
     ensures { result ≡ number_in_numbers (nodes_of term.now) }
 {
     number_told(queries::nodes(term))
 }
 
-#[unsafe(no_mangle)]
-pub extern "C" fn copperjangle_height(term: &[u8]) -> Answer
+pub fn copperjangle_height(term: &[u8]) -> Answer
     ensures { result ≡ number_in_numbers (height_of term.now) }
 {
     number_told(queries::height(term))
 }
 
-#[unsafe(no_mangle)]
-pub extern "C" fn copperjangle_max_depth(term: &[u8]) -> Answer
+pub fn copperjangle_max_depth(term: &[u8]) -> Answer
     ensures { result ≡ number_in_numbers (max_depth_of term.now) }
 {
     number_told(queries::max_depth(term))
 }
 
-#[unsafe(no_mangle)]
-pub extern "C" fn copperjangle_max_free_index(term: &[u8]) -> Answer
+pub fn copperjangle_max_free_index(term: &[u8]) -> Answer
     ensures { result ≡ number_in_numbers (max_free_index_of term.now) }
 {
     number_told(queries::max_free_index(term))
 }
 
-#[unsafe(no_mangle)]
-pub extern "C" fn copperjangle_has_free_variables(term: &[u8]) -> Answer
+pub fn copperjangle_has_free_variables(term: &[u8]) -> Answer
     ensures { result ≡ truth_in_numbers (has_free_variables_of term.now) }
 {
     truth_told(queries::has_free_variables(term))
 }
 
-#[unsafe(no_mangle)]
-pub extern "C" fn copperjangle_is_supercombinator(term: &[u8]) -> Answer
+pub fn copperjangle_is_supercombinator(term: &[u8]) -> Answer
     ensures { result ≡ truth_in_numbers (is_supercombinator_of term.now) }
 {
     truth_told(queries::is_supercombinator(term))
 }
 
-#[unsafe(no_mangle)]
-pub extern "C" fn copperjangle_equality(first: &[u8], second: &[u8]) -> Answer
+pub fn copperjangle_equality(first: &[u8], second: &[u8]) -> Answer
     ensures { result ≡ truth_in_numbers (equality_of first.now second.now) }
 {
     truth_told(queries::equality(first, second))
 }
 
-#[unsafe(no_mangle)]
-pub extern "C" fn copperjangle_print(notation: u64, term: &[u8], out: &mut [u8]) -> Answer
+pub fn copperjangle_print(notation: u64, term: &[u8], out: &mut [u8]) -> Answer
     ensures { (result, out.new) ≡ print_numbered notation term.now out.old }
 {
     if NOTATIONS <= notation {
@@ -126,8 +121,7 @@ pub extern "C" fn copperjangle_print(notation: u64, term: &[u8], out: &mut [u8])
     }
 }
 
-#[unsafe(no_mangle)]
-pub extern "C" fn copperjangle_parse(
+pub fn copperjangle_parse(
     notation: u64,
     cap: u64,
     text: &[u8],
@@ -146,8 +140,7 @@ pub extern "C" fn copperjangle_parse(
     }
 }
 
-#[unsafe(no_mangle)]
-pub extern "C" fn copperjangle_apply(
+pub fn copperjangle_apply(
     cap: u64,
     abstraction: &[u8],
     argument: &[u8],
@@ -164,8 +157,7 @@ pub extern "C" fn copperjangle_apply(
     }
 }
 
-#[unsafe(no_mangle)]
-pub extern "C" fn copperjangle_eta(
+pub fn copperjangle_eta(
     limit: u64,
     cap: u64,
     term: &[u8],
@@ -178,8 +170,7 @@ pub extern "C" fn copperjangle_eta(
     run_told(eta::eta(limit, cap, term, out, room))
 }
 
-#[unsafe(no_mangle)]
-pub extern "C" fn copperjangle_reduce(
+pub fn copperjangle_reduce(
     order: u64,
     limit: u64,
     cap: u64,
