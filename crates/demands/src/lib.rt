@@ -1,1 +1,3 @@
+#![tactic(auto)]
+
 // Theorems about the outcomes of the functions themselves: see proofs/. No code runs.
