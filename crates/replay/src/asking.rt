@@ -27,7 +27,7 @@ const ALL_ORDERS: u64 = 99;
 
 // The place of a notation or an order among their names. One that is none is asked for by a number that is none.
 fn name_of(kind: usize, word: &[u8]) -> u64 {
-    if check::same(word, b"ALL") {
+    if word == b"ALL".as_slice() {
         return ALL_ORDERS;
     }
     if kind == REDUCE {
@@ -46,7 +46,7 @@ pub(crate) fn behind_named(name: u64) -> u64 {
 }
 
 // The first input is between two places of the line, and a second one begins at another.
-#[derive(Drop)]
+#[derive(Clone, Copy)]
 pub(crate) struct Asked {
     pub(crate) kind: usize,
     pub(crate) name: u64,

@@ -4,9 +4,10 @@ use crate::lines::{decimal, word};
 use crate::telling::say;
 use calculus::{MOST_NODES, ROOM_PER_NODE};
 use copperjangle::Answer;
+use std::io;
 
 // The cap that is stated, the bytes of output and the numbers of room.
-#[derive(Drop)]
+#[derive(Clone, Copy)]
 pub(crate) struct Lent {
     pub(crate) cap: u64,
     pub(crate) bytes: usize,
@@ -23,7 +24,7 @@ pub(crate) fn nothing() -> Lent {
 
 // What is lent after a line, which may say it anew.
 pub(crate) fn read(line: &[u8], lent: Lent) -> Lent {
-    if !check::same(word(line, 0), b"lend") {
+    if word(line, 0) != b"lend".as_slice() {
         return lent;
     }
     Lent {
@@ -101,14 +102,21 @@ pub(crate) fn cleared(kind: usize, refusal: u64, cap: u64) -> usize {
 }
 
 // Behind the answer the output is as it was; of the room the first numbers are zero, and the others as they were.
-pub(crate) fn tell_changes(out: &[u8], length: usize, room: &[u64], zeros: usize) {
+pub(crate) fn tell_changes(
+    rt: &impl Print,
+    out: &[u8],
+    length: usize,
+    room: &[u64],
+    zeros: usize,
+) -> io::Result<()> {
     if !is_kept(out, length) {
-        say(b" OUTPUT CHANGED");
+        say(rt, b" OUTPUT CHANGED")?;
     }
     if !are(room, 0, zeros, 0) {
-        say(b" ROOM NOT CLEAR");
+        say(rt, b" ROOM NOT CLEAR")?;
     }
     if !are(room, zeros, room.len(), FILLED_NUMBER) {
-        say(b" ROOM CHANGED");
+        say(rt, b" ROOM CHANGED")?;
     }
+    Ok(())
 }

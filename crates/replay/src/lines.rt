@@ -57,7 +57,7 @@ pub(crate) fn word(line: &[u8], spaces: usize) -> &[u8] {
 // Which of the names, themselves a line's words, a word is, from 0 on; for any other a number that no name has.
 pub(crate) fn which(names: &[u8], name: &[u8]) -> usize {
     for number in 0..names.len() {
-        if check::same(word(names, number), name) {
+        if word(names, number) == name {
             return number;
         }
     }

@@ -4,25 +4,25 @@ ghost use Rattle.std.specs.Prelude.{◌≤◌};
 use crate::asking::PRINT;
 use crate::lines::part;
 use copperjangle::Answer;
-use libc::STDOUT_FILENO;
+use std::io;
 use term::Head;
 
-pub(crate) fn say(words: &[u8]) {
-    io::write_all(STDOUT_FILENO, words);
+pub(crate) fn say(rt: &impl Print, words: &[u8]) -> io::Result<()> {
+    rt.write_all(words)
 }
 
-fn tell_number(words: &[u8], n: u64) {
-    say(words);
-    io::print_decimal(STDOUT_FILENO, n);
+fn tell_number(rt: &impl Print, words: &[u8], n: u64) -> io::Result<()> {
+    say(rt, words)?;
+    rt.print(n)
 }
 
-fn tell_answer(answer: Answer) {
-    tell_number(b"", answer.refusal);
-    tell_number(b" ", answer.finished);
-    tell_number(b" ", answer.value);
-    tell_number(b" ", answer.steps);
-    tell_number(b" ", answer.place);
-    tell_number(b" ", answer.code);
+fn tell_answer(rt: &impl Print, answer: Answer) -> io::Result<()> {
+    tell_number(rt, b"", answer.refusal)?;
+    tell_number(rt, b" ", answer.finished)?;
+    tell_number(rt, b" ", answer.value)?;
+    tell_number(rt, b" ", answer.steps)?;
+    tell_number(rt, b" ", answer.place)?;
+    tell_number(rt, b" ", answer.code)
 }
 
 fn wide(b: u8) -> u64
@@ -42,64 +42,67 @@ fn checksum(bytes: &[u8]) -> u64 {
     high * 65536 + low
 }
 
-fn tell_index(index: u64) {
+fn tell_index(rt: &impl Print, index: u64) -> io::Result<()> {
     if index < 16 {
-        io::print_hex(STDOUT_FILENO, index, 1);
-        return;
+        return print!(rt; "{index:x}");
     }
-    say(b"[");
-    io::print_hex(STDOUT_FILENO, index, 1);
-    say(b"]");
+    print!(rt; "[{index:x}]")
 }
 
-fn tell_mark(mark: u8) {
-    say(&[mark]);
+fn tell_mark(rt: &impl Print, mark: u8) -> io::Result<()> {
+    say(rt, &[mark])
 }
 
 // A term by marks, as questions have it.
-fn tell_term(s: &[u8]) {
+fn tell_term(rt: &impl Print, s: &[u8]) -> io::Result<()> {
     let mut at: usize = 0;
     while at < s.len() {
         match term::head_at(s, at) {
             Head::Variable(index) => {
-                tell_index(index);
+                tell_index(rt, index)?;
                 at += 9;
             }
             Head::Abstraction => {
-                tell_mark(b'\\');
+                tell_mark(rt, b'\\')?;
                 at += 1;
             }
             Head::Application => {
-                tell_mark(b'@');
+                tell_mark(rt, b'@')?;
                 at += 1;
             }
             Head::Nothing => {
-                return;
+                return Ok(());
             }
         }
     }
+    Ok(())
 }
 
 // What has more bytes than these is told by its checksum.
 const MOST_TOLD: usize = 6000;
 
-fn tell_output(kind: usize, written: &[u8]) {
+fn tell_output(rt: &impl Print, kind: usize, written: &[u8]) -> io::Result<()> {
     if MOST_TOLD < written.len() {
-        tell_number(b"checksum ", checksum(written));
-        return;
+        return tell_number(rt, b"checksum ", checksum(written));
     }
     if kind == PRINT {
-        say(written);
-        return;
+        return say(rt, written);
     }
-    tell_term(written);
+    tell_term(rt, written)
 }
 
 // So many bytes of the output are the answer.
-pub(crate) fn tell(kind: usize, answer: Answer, out: &[u8], length: usize) {
-    tell_answer(answer);
+pub(crate) fn tell(
+    rt: &impl Print,
+    kind: usize,
+    answer: Answer,
+    out: &[u8],
+    length: usize,
+) -> io::Result<()> {
+    tell_answer(rt, answer)?;
     if 0 < length {
-        say(b" ");
-        tell_output(kind, part(out, 0, length));
+        say(rt, b" ")?;
+        tell_output(rt, kind, part(out, 0, length))?;
     }
+    Ok(())
 }

@@ -5,14 +5,14 @@
 use crate::lines::{digit, hex, part, past, put, word_end};
 
 // Bytes of the work, between two places.
-#[derive(Drop)]
+#[derive(Clone, Copy)]
 struct Place {
     from: usize,
     end: usize,
 }
 
 // The first input is between two places of the work, and the second between two others.
-#[derive(Drop)]
+#[derive(Clone, Copy)]
 pub(crate) struct Inputs {
     pub(crate) first: usize,
     pub(crate) first_end: usize,

@@ -2,7 +2,7 @@
 use crate::lines::{decimal, hex, part, past, put, word_end};
 
 // The places reached in the line and in the work, and where the last piece begins.
-#[derive(Drop)]
+#[derive(Clone, Copy)]
 struct Unfolded {
     at: usize,
     to: usize,
