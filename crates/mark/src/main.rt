@@ -1,4 +1,8 @@
 // The program of document 01: a first line and a text from standard input, the answer to standard output.
-fn main() {
-    serving::serve();
+#![tactic(auto)]
+
+use std::io;
+
+fn main(rt: HostRuntime) -> io::Result<()> {
+    serving::serve(&rt)
 }

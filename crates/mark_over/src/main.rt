@@ -1,4 +1,8 @@
 // The program of document 01, run on 65,537 bytes, which are one too many.
-fn main() {
-    serving::serve();
+#![tactic(auto)]
+
+use std::io;
+
+fn main(rt: HostRuntime) -> io::Result<()> {
+    serving::serve(&rt)
 }
