@@ -19,7 +19,7 @@ fn main() {
     if !archive.is_file() {
         stop(&format!(
             "copperjangle: there is no {}\n\
-             Run `rt staticlib copperjangle` at the root of the repository, which makes it,\n\
+             Run `./build archive` at the root of the repository, which makes it,\n\
              or set COPPERJANGLE_LIB to the folder that has {ARCHIVE}.",
             archive.display()
         ));
