@@ -51,3 +51,6 @@ module _ (n : Notation) (s : List ℕ) where
 
   pub worded : {j : Judged} → Clean s → Worded n s j → Judges n s j
   worded clean w = rw (short-answer s clean.short, clean.domain) w
+
+-- what the judge is proved by
+pub ruleset judging = (inside-clean, too_long, outside, worded)

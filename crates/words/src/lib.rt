@@ -119,6 +119,7 @@ pub enum Judged {
 }
 
 // 3, 4, then 5.
+#[tactic(auto, using(crate::proofs::Refusing::judging))]
 pub fn judge(notation: Notation, text: &[u8]) -> Judged
     ensures { Judges (notation_of notation) text.now result }
 {
