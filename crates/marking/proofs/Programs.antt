@@ -7,8 +7,8 @@ use mathlib.Core.Option.{Option, none, some}
 use native.Mathlib.Omega.{arith}
 use native.Mathlib.Nat.{zero-add}
 use lib.Dec.{leb}
-use lib.ListN.{length, length-append}
-use lib.Seq.{length-take-le}
+use lib.ListN.{length, take, length-append}
+use lib.Seq.{sets, length-take-le}
 use borrow.Author.Tests.{le-leb, lt-leb}
 use Rattle.calculus.specs.Term.{Term}
 use Rattle.calculus.specs.Bounds.{most_input, program_cap}
@@ -19,7 +19,7 @@ use Rattle.calculus.specs.Refusal.{Refusal, refusal_number, outside_bounds, text
 use Rattle.calculus.specs.Runs.{Run, refused_after}
 use Rattle.calculus.specs.Reading.{Notation, read_text}
 use Rattle.calculus.specs.Writing.{write_text}
-use Rattle.calculus.specs.Outcomes.{limit_allowed}
+use Rattle.calculus.specs.Outcomes.{limit_allowed, laid_over}
 use Rattle.calculus.specs.Program.{Job, job, line, term_line, refused_line, report, comes_to, done, done_or_malformed}
 use Rattle.calculus.specs.Program.{first_line, program_of}
 use Rattle.calculus.proofs.Putting.{Puts, puts-length, laid}
@@ -98,3 +98,24 @@ module _ (s : List ℕ) where
             (put.stored ∙ laid text out (omega arith))),
         (inside, sym (length-take-le r after inside)),
       )
+
+-- an input that is too long
+module _ (s out : List ℕ) (long : most_input < length s) (room : most_output ≤ length out) where
+  pub long_laid : laid_over (program_of s) out ≡ sets out 0 (refused_line text_too_long)
+  long_laid = rw (too_long s long) (sym (laid (refused_line text_too_long) out (omega (arith, refused-short text_too_long))))
+
+module _ {out after : List ℕ} {r : ℕ} (put : Puts out 0 (refused_line text_too_long) r after)
+    (room : most_output ≤ length out) where
+  pub refusal_within : r ≤ length after
+  refusal_within =
+      omega (
+        arith,
+        put.reached,
+        puts-length (refused_line text_too_long) put,
+        refused-short text_too_long,
+      )
+
+  pub refusal_taken : r ≡ length (take r after)
+  refusal_taken = sym (length-take-le r after refusal_within)
+
+pub ruleset long_told = (too_long, long_laid, refusal_within, refusal_taken)

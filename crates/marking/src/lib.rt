@@ -100,6 +100,7 @@ fn do_job(order: Order, limit: u64, notation: Notation, text: &[u8], out: &mut [
 }
 
 // Too many bytes are 3, before the first line is looked at; a malformed first line is 1.
+#[tactic(auto, using(crate::proofs::Programs::long_told))]
 pub fn mark(input: &[u8], out: &mut [u8; MOST_OUTPUT]) -> usize
     ensures lays { Lays (program_of input.now) out.old result out.new }
     ensures prefix_len { IsPrefixLen result out.new }

@@ -2,20 +2,14 @@
 use mathlib.Core.Path.{sym}
 use native.Mathlib.Omega.{arith}
 use Rattle.marking.proofs.Texts.{part-is}
-use Rattle.marking.proofs.Programs.{too_long, malformed, well_formed, written}
+use Rattle.marking.proofs.Programs.{malformed, well_formed, written}
 use Rattle.marking.proofs.mark.Goals as goal
-
-pub returns-then-input-gt-MOST_INPUT : goal.returns-then-input-gt-MOST_INPUT
-returns-then-input-gt-MOST_INPUT c =
-    let input = c.args.input.now in
-    let both = written input (too_long input c.if-input-gt-MOST_INPUT.true) (omega arith) c.put_refusal.ensures in
-    record { lays = both.0; prefix_len = both.1 }
 
 pub returns-in-Malformed : goal.returns-in-Malformed
 returns-in-Malformed c =
     let input = c.args.input.now in
     let line = rw c.in-Malformed.is at c.first_line.ensures.result_value in
-    let both = written input (malformed input c.if-input-gt-MOST_INPUT.false (sym line)) (omega arith) c.put_refusal-in-Malformed.ensures in
+    let both = written input (malformed input (omega arith) (sym line)) (omega arith) c.put_refusal-in-Malformed.ensures in
     record { lays = both.0; prefix_len = both.1 }
 
 pub slice_bounds-do_job-count : goal.slice_bounds-do_job-count
@@ -31,6 +25,6 @@ pub returns-in-Job : goal.returns-in-Job
 returns-in-Job c =
     let input = c.args.input.now in
     let line = rw c.in-Job.is at c.first_line.ensures.result_value in
-    let both = written input (well_formed input c.if-input-gt-MOST_INPUT.false (sym line)) (omega arith)
+    let both = written input (well_formed input (omega arith) (sym line)) (omega arith)
     (rw (part-is input _) at c.do_job.ensures) in
     record { lays = both.0; prefix_len = both.1 }
