@@ -1,6 +1,6 @@
 -- What is left at the end of the text: 8, 7 and 9 of what was read, and its bytes.
 use Prim.Native.Nat.{ℕ, ◌≤◌, ◌<◌}
-use mathlib.Core.Path.{◌≡◌, refl, ap₂, ◌∙◌}
+use mathlib.Core.Path.{refl, ap₂, ◌∙◌}
 use mathlib.Core.List.{List}
 use native.Mathlib.Omega.{arith}
 use native.Mathlib.Nat.{zero-add}
@@ -20,39 +20,38 @@ use Rattle.nodes.specs.Lending.{Lent}
 use Rattle.parser.specs.Answers.{parsed_told}
 use Rattle.parser.specs.States.{State}
 use Rattle.parser.specs.Building.{Means, nothing, term, empty}
-use Rattle.parser.specs.Parsing.{Stores, Storable, Saves, at_the_end}
+use Rattle.parser.specs.Parsing.{Stores, at_the_end}
 use Rattle.parser.specs.declared.building.Found.{Found}
-use Rattle.parser.specs.declared.building.Built.{Built}
 use Rattle.parser.specs.declared.building.Part.TheVariants as part
 use Rattle.parser.specs.declared.Parsed.TheVariants.{Length, Refused}
 
--- by what it stands for
+-- by what it stands for: 8, 7, 9, or its bytes
 module _ {store : List ℕ} {most used : ℕ} {out : List ℕ} where
-  nothing_read : {st : State} → Means store most 0 used part.Nothing st
+  pub nothing_read : {st : State} → Means store most 0 used part.Nothing st
       → Stores (at_the_end most st) out (Refused EmptyExpression) out
   unfolding parsed parsed_told
   nothing_read (nothing e) = refl
 
-  empty-read : {st : State} → Means store most 0 used part.Empty st
+  pub empty-read : {st : State} → Means store most 0 used part.Empty st
       → Stores (at_the_end most st) out (Refused EmptyExpression) out
   unfolding parsed parsed_told
   empty-read (empty g) = refl
 
-  too_high-read : {found : Found} {st : State} → most_height < found.height
+  pub too_high-read : {found : Found} {st : State} → most_height < found.height
       → Means store most 0 used (part.Term found) st
       → Stores (at_the_end most st) out (Refused TooHigh) out
   unfolding parsed parsed_told within
   too_high-read high (term {t} h n below built) = rw (lt-leb (height t) most_height (omega arith))
 
   module _ {found : Found} (low : found.height ≤ most_height) where
-    too_many-read : {st : State} → most < used → Means store most 0 used (part.Term found) st
+    pub too_many-read : {st : State} → most < used → Means store most 0 used (part.Term found) st
         → Stores (at_the_end most st) out (Refused TooManyNodes) out
     unfolding parsed parsed_told within
     too_many-read many (term {t} h n below built) =
         rw (le-leb (height t) most_height (omega arith), lt-leb (nodes t) most (omega arith))
 
     module _ (few : used ≤ most) (lent : Lent most out store) where
-      savable : {st : State} → Means store most 0 used (part.Term found) st → nodes.Savable store found.node out 0
+      pub savable : {st : State} → Means store most 0 used (part.Term found) st → nodes.Savable store found.node out 0
       savable (term {t} h n below built) = record {
         term = t;
         holds = built few (omega arith);
@@ -60,7 +59,7 @@ module _ {store : List ℕ} {most used : ℕ} {out : List ℕ} where
         fits = omega (arith, nine_per_node t, lent.output);
       }
 
-      stored_there : {after : List ℕ} {to : ℕ} {st : State} → nodes.Saves store found.node out 0 to after
+      pub stored_there : {after : List ℕ} {to : ℕ} {st : State} → nodes.Saves store found.node out 0 to after
           → Means store most 0 used (part.Term found) st → Stores (at_the_end most st) out (Length to) after
       unfolding parsed parsed_told within
       stored_there saved (term {t} h n below built) =
@@ -70,29 +69,5 @@ module _ {store : List ℕ} {most used : ℕ} {out : List ℕ} where
           (ap₂ (λ a b. (given a, b)) (put.reached ∙ zero-add (length (encode t)))
           (put.stored ∙ laid (encode t) out fits))
 
--- by its part
-module _ {store : List ℕ} {most : ℕ} {read : Built} {out : List ℕ} where
-  -- 8
-  pub saves-nothing : read.part ≡ part.Nothing → Saves store most read out (Refused EmptyExpression) out
-  saves-nothing is = record { saves = λ st m. nothing_read (rw is at m) }
-
-  pub saves-empty : read.part ≡ part.Empty → Saves store most read out (Refused EmptyExpression) out
-  saves-empty is = record { saves = λ st m. empty-read (rw is at m) }
-
-  module _ (found : Found) (is : read.part ≡ part.Term found) where
-    -- 7
-    pub saves-too_high : most_height < found.height → Saves store most read out (Refused TooHigh) out
-    saves-too_high high = record { saves = λ st m. too_high-read high (rw is at m) }
-
-    module _ (low : found.height ≤ most_height) where
-      -- 9
-      pub saves_too_many : most < read.used → Saves store most read out (Refused TooManyNodes) out
-      saves_too_many many = record { saves = λ st m. too_many-read low many (rw is at m) }
-
-      module _ (few : read.used ≤ most) (there : Storable store most read out) where
-        pub can-save : nodes.Savable store found.node out 0
-        can-save = savable low few there.lent (rw is at there.means)
-
-        pub saves-term : {after : List ℕ} {to : ℕ} → nodes.Saves store found.node out 0 to after
-            → Saves store most read out (Length to) after
-        saves-term saved = record { saves = λ st m. stored_there low few there.lent saved (rw is at m) }
+-- the laws by which `save` is proved
+pub ruleset saving = (nothing_read, empty-read, too_high-read, too_many-read, savable, stored_there)

@@ -34,6 +34,7 @@ pub enum Parsed {
 }
 
 // 8, 7, then 9, of what was read; the bytes of a term that is within the bounds.
+#[tactic(auto, using(crate::proofs::Saving::saving))]
 fn save(store: &[u64], cap: usize, read: Built, out: &mut [u8]) -> Parsed
     requires { Storable store.now cap read out.old }
     ensures { Saves store.now cap read out.old result out.new }
