@@ -84,6 +84,9 @@ module _ {n : Notation} {s stack : List ℕ} {count : ℕ} {store : List ℕ} {m
       same = reads.same;
     }
 
+-- the law by which `group` refuses
+pub ruleset refusing = (too_many-open)
+
 module _ {n : Notation} {s stack : List ℕ} {count : ℕ} {store : List ℕ} {most : ℕ} {from : Cursor} {base : ℕ}
     {stack' store' : List ℕ} {here : Cursor} {read : Built}
     (so_far : SoFar n s stack count store most from base stack' store' here read)

@@ -83,6 +83,7 @@ pub(crate) fn sequence(
 
 // What a `(` or a binder holds: a sequence, with one more open.
 #[cycle(group_sequence)]
+#[tactic(auto, using(crate::proofs::Nesting::refusing))]
 fn group(
     text: &[u8],
     notation: Notation,

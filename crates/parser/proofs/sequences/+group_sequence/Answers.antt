@@ -3,32 +3,26 @@ use mathlib.Core.Path.{◌∙◌}
 use native.Mathlib.Omega.{arith}
 use Rattle.parser.proofs.Turns.{at_first, variable-read, closed-here, ended_here, undefined_here}
 use Rattle.parser.proofs.Turns.{few_used, roomy-here, enclosable-here, opened-here, ready-inside}
-use Rattle.parser.proofs.Nesting.{too_many-open, ready-opened, group-enters, nested_stops, group-read, body-read}
+use Rattle.parser.proofs.Nesting.{ready-opened, group-enters, nested_stops, group-read, body-read}
 use Rattle.parser.proofs.Nesting.{last-few, went_on, roomy_after, joinable-after}
 use Rattle.parser.proofs.sequences.+group_sequence.Goals as goal
 
-pub group-returns-then-count-ge-MOST_OPEN : goal.group-returns-then-count-ge-MOST_OPEN
-group-returns-then-count-ge-MOST_OPEN t c = too_many-open c.requires.0 c.if-count-ge-MOST_OPEN.true
-
 pub group-bounds-stack-count : goal.group-bounds-stack-count
-group-bounds-stack-count t c =
-    omega (arith, c.if-count-ge-MOST_OPEN.false, c.requires.0.opened.as_long)
+group-bounds-stack-count t c = omega (arith, c.requires.0.opened.as_long)
 
 pub group-sequence-requires : goal.group-sequence-requires
 group-sequence-requires t c =
-    (omega (arith, c.decreases), ready-opened c.requires.0 c.if-count-ge-MOST_OPEN.false _ c.requires.1)
+    (omega (arith, c.decreases), ready-opened c.requires.0 (omega arith) _ c.requires.1)
 
 pub group-shape_of-stack : goal.group-shape_of-stack
 group-shape_of-stack t c =
-    (group-enters c.requires.0 c.if-count-ge-MOST_OPEN.false c.args.opening
-    c.sequence.ensures).kept.as_long
+    (group-enters c.requires.0 (omega arith) c.args.opening c.sequence.ensures).kept.as_long
 
 pub group-shape_of-store : goal.group-shape_of-store
 group-shape_of-store t c = c.sequence.ensures.same.as_long
 
 pub group-returns : goal.group-returns
-group-returns t c =
-    group-enters c.requires.0 c.if-count-ge-MOST_OPEN.false _ c.sequence.ensures
+group-returns t c = group-enters c.requires.0 (omega arith) _ c.sequence.ensures
 
 pub sequence-loop-index-init : goal.sequence-loop-index-init
 sequence-loop-index-init t c = at_first _ _ _ _ _ _ _ _ c.requires
