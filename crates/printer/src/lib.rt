@@ -129,6 +129,7 @@ enum Fit {
 }
 
 // Where there is plenty of room the text need not be measured.
+#[tactic(auto, using(crate::proofs::Printing::measured_length))]
 fn judge_length(style: Style, plenty: usize, s: &[u8], room: usize) -> Fit
     requires { Printable style plenty s.now }
     ensures { Fitting style plenty s.now room result }
