@@ -1,6 +1,6 @@
 -- What is left at the end of the text: 8, 7 and 9 of what was read, and its bytes.
 use Prim.Native.Nat.{ℕ, ◌≤◌, ◌<◌}
-use mathlib.Core.Path.{refl, ap₂, ◌∙◌}
+use mathlib.Core.Path.{◌≡◌, refl, ap₂, ◌∙◌}
 use mathlib.Core.List.{List}
 use native.Mathlib.Omega.{arith}
 use native.Mathlib.Nat.{zero-add}
@@ -20,8 +20,9 @@ use Rattle.nodes.specs.Lending.{Lent}
 use Rattle.parser.specs.Answers.{parsed_told}
 use Rattle.parser.specs.States.{State}
 use Rattle.parser.specs.Building.{Means, nothing, term, empty}
-use Rattle.parser.specs.Parsing.{Stores, at_the_end}
+use Rattle.parser.specs.Parsing.{Stores, Storable, Saves, at_the_end}
 use Rattle.parser.specs.declared.building.Found.{Found}
+use Rattle.parser.specs.declared.building.Built.{Built}
 use Rattle.parser.specs.declared.building.Part.TheVariants as part
 use Rattle.parser.specs.declared.Parsed.TheVariants.{Length, Refused}
 
@@ -68,6 +69,33 @@ module _ {store : List ℕ} {most used : ℕ} {out : List ℕ} where
           rw (le-leb (height t) most_height (omega arith), le-leb (nodes t) most (omega arith))
           (ap₂ (λ a b. (given a, b)) (put.reached ∙ zero-add (length (encode t)))
           (put.stored ∙ laid (encode t) out fits))
+
+-- by its part
+module _ {store : List ℕ} {most : ℕ} {read : Built} {out : List ℕ} where
+  -- 8
+  pub saves-nothing : read.part ≡ part.Nothing → Saves store most read out (Refused EmptyExpression) out
+  saves-nothing is = record { saves = λ st m. nothing_read (rw is at m) }
+
+  pub saves-empty : read.part ≡ part.Empty → Saves store most read out (Refused EmptyExpression) out
+  saves-empty is = record { saves = λ st m. empty-read (rw is at m) }
+
+  module _ (found : Found) (is : read.part ≡ part.Term found) where
+    -- 7
+    pub saves-too_high : most_height < found.height → Saves store most read out (Refused TooHigh) out
+    saves-too_high high = record { saves = λ st m. too_high-read high (rw is at m) }
+
+    module _ (low : found.height ≤ most_height) where
+      -- 9
+      pub saves_too_many : most < read.used → Saves store most read out (Refused TooManyNodes) out
+      saves_too_many many = record { saves = λ st m. too_many-read low many (rw is at m) }
+
+      module _ (few : read.used ≤ most) (there : Storable store most read out) where
+        pub can-save : nodes.Savable store found.node out 0
+        can-save = savable low few there.lent (rw is at there.means)
+
+        pub saves-term : {after : List ℕ} {to : ℕ} → nodes.Saves store found.node out 0 to after
+            → Saves store most read out (Length to) after
+        saves-term saved = record { saves = λ st m. stored_there low few there.lent saved (rw is at m) }
 
 -- the laws by which `save` is proved
 pub ruleset saving = (nothing_read, empty-read, too_high-read, too_many-read, savable, stored_there)

@@ -1,5 +1,5 @@
 -- From the walk to what `print` answers: the text of the whole term, whether it fits, and the slice afterwards.
-use Prim.Native.Nat.{ℕ, ◌*◌, ◌≤◌}
+use Prim.Native.Nat.{ℕ, ◌*◌, ◌≤◌, ◌<◌}
 use mathlib.Core.Path.{◌≡◌, refl, sym, ap, ap₂, ◌∙◌}
 use mathlib.Core.Bool.{Bool, true, false, cond}
 use mathlib.Core.List.{List}
@@ -7,7 +7,7 @@ use native.Mathlib.Omega.{arith}
 use native.Mathlib.Nat.{zero-add}
 use lib.Dec.{leb}
 use lib.ListN.{length}
-use borrow.Author.Tests.{leb-true}
+use borrow.Author.Tests.{leb-true, le-leb, lt-leb}
 use Rattle.calculus.specs.Term.{Term}
 use Rattle.calculus.specs.Bounds.{most_nodes, most_height}
 use Rattle.calculus.specs.Refusal.{given}
@@ -21,6 +21,7 @@ use Rattle.calculus.proofs.Shown.{text-length}
 use Rattle.term.specs.Answers.{check_told, check_of}
 use Rattle.term.specs.FactsOf.{facts_of}
 use Rattle.term.specs.Notations.{notation_of}
+use Rattle.term.specs.Surveys.{Stands}
 use Rattle.term.specs.declared.Facts.{Facts}
 use Rattle.term.specs.declared.Notation.{Notation}
 use Rattle.term.specs.declared.Refusal.{Refusal}
@@ -30,7 +31,7 @@ use Rattle.term.specs.declared.Checked.TheVariants as checks
 use Rattle.term.proofs.Checking.{decoded_stands, check-whole, check-refused}
 use Rattle.printer.specs.Parts.{part_text, Writable}
 use Rattle.printer.specs.Answers.{printed_told}
-use Rattle.printer.specs.Printing.{StyleOf, Printable, Fitting, Prints}
+use Rattle.printer.specs.Printing.{StyleOf, Printable, Measures, Fitting, Prints}
 use Rattle.printer.specs.Writers.{WritesWhole}
 use Rattle.printer.specs.Gauges.{style_by, GaugedWhole, GaugesWhole}
 use Rattle.printer.specs.declared.gauging.Gauge.{Gauge}
@@ -74,7 +75,30 @@ module _ {w : Style} {s before : List ℕ} {from to : ℕ} {after : List ℕ} wh
       → WritesWhole w s before from place last
   written_to wrote e k = rw (e, k) wrote
 
--- WHETHER IT FITS: the text is as long as it is measured
+-- WHETHER IT FITS
+module _ (w : Style) (plenty : ℕ) (s : List ℕ) (room : ℕ) where
+  pub spacious : plenty ≤ room → Fitting w plenty s room Fits
+  spacious h = record {
+    fitting = λ t st e. rw (le-leb (length (text_in w t)) room (omega (arith, e.short)));
+  }
+
+  module _ {needed : ℕ} (measured : Measures w s needed) where
+    text-measured : (t : Term) → Stands s 0 t → StyleOf w plenty t → needed ≡ length (text_in w t)
+    text-measured t st e = measured.measured t st ∙ ap length (whole-text w t e.deep)
+
+    pub enough : needed ≤ room → Fitting w plenty s room Fits
+    enough h = record {
+      fitting = λ t st e. rw (le-leb (length (text_in w t)) room (omega (arith, text-measured t st e)));
+    }
+
+    pub too_long : room < needed → Fitting w plenty s room (Needs needed)
+    too_long h = record {
+      fitting = λ t st e.
+          let same = text-measured t st e in
+          rw (lt-leb (length (text_in w t)) room (omega (arith, same))) (ap Needs same);
+    }
+
+-- the text is as long as it is measured
 pub measured_length : (w : Style) (t : Term) → w.most ≡ max_depth t
     → length (write_text (notation_of w.notation) t) ≡ length (part_text w 0 Whole t)
 measured_length w t e = ap length (sym (whole-text w t e))
