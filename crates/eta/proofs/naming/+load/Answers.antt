@@ -11,7 +11,7 @@ use Rattle.eta.proofs.Loaded.{some-made, counts-length, variable-inside, variabl
 use Rattle.eta.proofs.Loaded.{depth_low, depth_inside, body_asks, binder-fits, at_abstraction}
 use Rattle.eta.proofs.Loaded.{left_asks, right_asks, parts-made, application-fits, at_application}
 use Rattle.eta.proofs.naming.+load.Goals as goal
-use Rattle.eta.proofs.naming.+load.Goals.{After-slice_known-in-Abstraction-4-1, After-struct_known-1, In-Abstraction, In-Application, In-Variable}
+use Rattle.eta.proofs.naming.+load.Goals.{After-load-right, In-Abstraction, In-Application, In-Variable}
 
 -- the head in each arm
 var-head : (t : ℕ) (c : In-Variable t)
@@ -29,7 +29,7 @@ app-head : (t : ℕ) (c : In-Application t)
     head_in (drop a.at a.s.now) ≡ Application
 app-head t c = sym c.head_at.ensures ∙ c.in-Application.is
 
-nodes-made : (t : ℕ) (c : After-struct_known-1 t)
+nodes-made : (t : ℕ) (c : After-load-right t)
     → let l = c.load-left.result.used in
     let r = c.load-right.result.used in
     (0 < l) × (l < r) × (r < 4294967296)
@@ -112,13 +112,13 @@ load-right-requires t c =
     (omega (arith, asks.inside, passed), asks)
 
 pub overflow_sub-left : goal.overflow_sub-left
-overflow_sub-left t c = omega (arith, nodes-made t (goal.at.overflow_sub-left t c).After-struct_known-1)
+overflow_sub-left t c = omega (arith, nodes-made t (goal.at.overflow_sub-left t c).After-load-right)
 
 pub overflow_sub-top-in-Application : goal.overflow_sub-top-in-Application
-overflow_sub-top-in-Application t c = omega (arith, nodes-made t (goal.at.overflow_sub-top-in-Application t c).After-struct_known-1)
+overflow_sub-top-in-Application t c = omega (arith, nodes-made t (goal.at.overflow_sub-top-in-Application t c).After-load-right)
 
 pub pair-requires : goal.pair-requires
-pair-requires t c = let made = nodes-made t (goal.at.pair-requires t c).After-struct_known-1 in (omega arith, omega arith)
+pair-requires t c = let made = nodes-made t (goal.at.pair-requires t c).After-load-right in (omega arith, omega arith)
 
 pub put-requires-in-Application : goal.put-requires-in-Application
 put-requires-in-Application t c =
@@ -138,7 +138,12 @@ returns-in-Abstraction t c =
 
 pub shape_of-counts-in-Abstraction : goal.shape_of-counts-in-Abstraction
 shape_of-counts-in-Abstraction t c =
-    counts-length c.requires (returns-in-Abstraction t (goal.at.shape_of-counts-in-Abstraction t c).After-slice_known-in-Abstraction-4-1)
+    let head = lam-head t (goal.at.shape_of-counts-in-Abstraction t c).In-Abstraction in
+    let reads = c.load-body.ensures in
+    let (next, put) = c.put.ensures in
+    let fits = binder-fits head c.requires reads in
+    counts-length c.requires
+    (at_abstraction head c.requires reads c.binder_word-w.ensures next (stored _ _ _ _ fits put))
 
 pub returns-in-Application : goal.returns-in-Application
 returns-in-Application t c =

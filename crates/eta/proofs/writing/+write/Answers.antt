@@ -12,7 +12,7 @@ use Rattle.eta.proofs.Written.{bound_asks, is_bound, is_zero, is_free, free_asks
 use Rattle.eta.proofs.Written.{binder_asks, body_below, body_asks, at_binder}
 use Rattle.eta.proofs.Written.{application_asks, left_asks, right_asks, at_application}
 use Rattle.eta.proofs.writing.+write.Goals as goal
-use Rattle.eta.proofs.writing.+write.Goals.{After-slice_known-6-1, After-slice_known-then-kind-eq2-2-1, Else-kind-eq2, Then-kind-eq0, Then-kind-eq1, Then-kind-eq2}
+use Rattle.eta.proofs.writing.+write.Goals.{Else-kind-eq2, Then-kind-eq0, Then-kind-eq1, Then-kind-eq2}
 
 -- which variable it is in each arm
 bound-here : (t : ℕ) (c : Then-kind-eq0 t)
@@ -127,10 +127,13 @@ returns-then-kind-eq2 t c =
 
 pub shape_of-out-then-kind-eq2 : goal.shape_of-out-then-kind-eq2
 shape_of-out-then-kind-eq2 t c =
-    written-length c.requires (returns-then-kind-eq2 t (goal.at.shape_of-out-then-kind-eq2 t c).After-slice_known-then-kind-eq2-2-1)
+    let here = (goal.at.shape_of-out-then-kind-eq2 t c).Then-kind-eq2 in
+    written-length c.requires (at_binder (binder-here t here) (binder-facts t here).1 c.write.ensures)
 
 pub shape_of-places-then-kind-eq2 : goal.shape_of-places-then-kind-eq2
-shape_of-places-then-kind-eq2 t c = (returns-then-kind-eq2 t (goal.at.shape_of-places-then-kind-eq2 t c).After-slice_known-then-kind-eq2-2-1).as_long
+shape_of-places-then-kind-eq2 t c =
+    let here = (goal.at.shape_of-places-then-kind-eq2 t c).Then-kind-eq2 in
+    (at_binder (binder-here t here) (binder-facts t here).1 c.write.ensures).as_long
 
 pub bounds-out-at-2 : goal.bounds-out-at-2
 bounds-out-at-2 t c = omega (arith, application-facts t (goal.at.bounds-out-at-2 t c).Else-kind-eq2)
@@ -157,4 +160,7 @@ returns t c =
 
 pub shape_of-out : goal.shape_of-out
 shape_of-out t c =
-    written-length c.requires (returns t (goal.at.shape_of-out t c).After-slice_known-6-1)
+    let here = (goal.at.shape_of-out t c).Else-kind-eq2 in
+    let first = rw c.left_of.ensures at c.write-next.ensures in
+    let second = rw c.right_of.ensures at c.write-2.ensures in
+    written-length c.requires (at_application (application-here t here) first second)

@@ -4,7 +4,6 @@ use lib.ListN.{length-set}
 use Rattle.calculus.proofs.Putting.{puts-length}
 use Rattle.eta.proofs.Written.{variable-put}
 use Rattle.eta.proofs.writing.write_variable.Goals as goal
-use Rattle.eta.proofs.writing.write_variable.Goals.{After-slice_known-2-1}
 
 pub put_index-requires : goal.put_index-requires
 put_index-requires c = rw length-set (omega arith)
@@ -13,4 +12,4 @@ pub returns : goal.returns
 returns c = variable-put _ c.put_index.ensures
 
 pub shape_of-out : goal.shape_of-out
-shape_of-out c = puts-length _ (returns (goal.at.shape_of-out c).After-slice_known-2-1)
+shape_of-out c = puts-length _ (variable-put _ c.put_index.ensures)
