@@ -6,7 +6,7 @@ use mathlib.Core.List.{List}
 use native.Mathlib.Omega.{arith}
 use lib.ListN.{length, set}
 use lib.Dec.{eqb}
-use borrow.Author.Tests.{eqb-true, eqb-false}
+use borrow.Author.Tests.{eqb-true, eqb-false, eq-eqb, ne_eqb}
 use Rattle.calculus.specs.Term.{Term, var, lam, app, nodes, height}
 use Rattle.calculus.specs.Queries.{max_free}
 use Rattle.calculus.specs.Traits.{NotLam, var_not_lam, app_not_lam}
@@ -163,3 +163,6 @@ module _ (xs : List ℕ) (u w x : ℕ) {ys : List ℕ} {next : ℕ} (fits : 2 * 
             let right = holds_kept v k new.same right_below g in
             rw (new.word_is, new.link_is, left_is, right_is) (said t v h g, left_below, right_below, left, right),
       )
+
+-- WHAT A TEST COMES TO where two numbers are the same, or not
+pub ruleset number_tests = (eq-eqb, ne_eqb)

@@ -117,6 +117,7 @@ fn lower(free: u64) -> u64
 }
 
 // Whether an application is normal, from its parts' first numbers.
+#[tactic(auto, using(crate::proofs::Making::number_tests))]
 fn settle(a: u64, b: u64) -> u64
     ensures { result ≡ settled a b }
 {
