@@ -230,3 +230,6 @@ loaded-taken input loads = record {
   count = loads.made input.term input.stands;
   holds = loads.loaded input.term input.stands;
 }
+
+-- WHERE NOTHING IS READ, and that a part has a node
+pub ruleset reading = (nothing_read, nodes_positive)

@@ -32,6 +32,7 @@ fn read_variable(s: &[u8], at: usize, room: &mut [u64], used: &mut usize) -> usi
 
 // The term at an offset, no higher than so much, becomes nodes, of which there are at most `cap` in all. The offset
 // after it is returned, or 0 if there is no such term.
+#[tactic(auto, using(crate::proofs::Taking::reading))]
 fn read(s: &[u8], at: usize, room: &mut [u64], used: &mut usize, cap: usize, height: u64) -> usize
     requires { Readable room.old used.old cap height }
     ensures { Reads s.now at room.old used.old cap height

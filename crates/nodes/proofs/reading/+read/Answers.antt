@@ -4,9 +4,9 @@ use mathlib.Core.Path.{◌≡◌, refl, sym, ◌∙◌}
 use native.Mathlib.Omega.{arith}
 use lib.ListN.{get_or}
 use Rattle.term.proofs.Standing.{kind-inside}
-use Rattle.nodes.proofs.Taking.{nothing_read, asks_less, within_more, first-missing, Begun}
-use Rattle.nodes.proofs.Taking.{some-made, abstraction_asks, at_abstraction, next_asks, second-missing}
-use Rattle.nodes.proofs.Taking.{more_made, application_asks, at_application}
+use Rattle.nodes.proofs.Taking.{asks_less, within_more, first-missing, Begun}
+use Rattle.nodes.proofs.Taking.{abstraction_asks, at_abstraction, next_asks, second-missing}
+use Rattle.nodes.proofs.Taking.{application_asks, at_application}
 use Rattle.nodes.proofs.reading.+read.Goals as goal
 use Rattle.nodes.proofs.reading.+read.Goals.{After-byte_at-kind, Else-cap-used, Else-first-eq0}
 
@@ -35,12 +35,6 @@ begun t c =
       found = omega (arith, c.if-first-eq0.false);
     }
 
-pub returns-then-height-eq0 : goal.returns-then-height-eq0
-returns-then-height-eq0 t c = nothing_read c.requires
-
-pub returns-then-cap-used : goal.returns-then-cap-used
-returns-then-cap-used t c = nothing_read c.requires
-
 pub read_variable-requires : goal.read_variable-requires
 read_variable-requires t c =
     let (more, some) = tested t (goal.at.read_variable-requires t c).Else-cap-used in
@@ -51,21 +45,9 @@ returns-then-kind-eq1 t c =
     let (more, some) = tested t (goal.at.returns-then-kind-eq1 t c).Else-cap-used in
     within_more more some c.read_variable.ensures
 
-pub returns-then-kind-lt2 : goal.returns-then-kind-lt2
-returns-then-kind-lt2 t c = nothing_read c.requires
-
-pub returns-then-kind-gt3 : goal.returns-then-kind-gt3
-returns-then-kind-gt3 t c = nothing_read c.requires
-
 pub overflow_add-at : goal.overflow_add-at
 overflow_add-at t c =
     omega (arith, kind-inside c.args.s.now c.args.at (omega arith) (kind-told t (goal.at.overflow_add-at t c).After-byte_at-kind refl))
-
-pub overflow_sub-cap : goal.overflow_sub-cap
-overflow_sub-cap t c = let (more, some) = tested t (goal.at.overflow_sub-cap t c).Else-cap-used in omega arith
-
-pub overflow_sub-height : goal.overflow_sub-height
-overflow_sub-height t c = let (more, some) = tested t (goal.at.overflow_sub-height t c).Else-cap-used in omega arith
 
 pub read-first-requires : goal.read-first-requires
 read-first-requires t c =
@@ -79,9 +61,6 @@ pub returns-then-first-eq0 : goal.returns-then-first-eq0
 returns-then-first-eq0 t c =
     first-missing (tested t (goal.at.returns-then-first-eq0 t c).Else-cap-used).0 c.read-first.ensures
 
-pub overflow_sub-left : goal.overflow_sub-left
-overflow_sub-left t c = omega (arith, some-made (begun t (goal.at.overflow_sub-left t c).Else-first-eq0))
-
 pub make_abstraction-requires : goal.make_abstraction-requires
 make_abstraction-requires t c = abstraction_asks (begun t (goal.at.make_abstraction-requires t c).Else-first-eq0)
 
@@ -93,12 +72,6 @@ pub returns-then-kind-eq2 : goal.returns-then-kind-eq2
 returns-then-kind-eq2 t c =
     let (next, same, new) = c.make_abstraction.ensures in
     at_abstraction (begun t (goal.at.returns-then-kind-eq2 t c).Else-first-eq0) (kind-told t (goal.at.returns-then-kind-eq2 t c).After-byte_at-kind c.if-kind-eq2.true) next same new
-
-pub overflow_sub-cap-2 : goal.overflow_sub-cap-2
-overflow_sub-cap-2 t c = omega (arith, begun t (goal.at.overflow_sub-cap-2 t c).Else-first-eq0)
-
-pub overflow_sub-height-2 : goal.overflow_sub-height-2
-overflow_sub-height-2 t c = omega (arith, begun t (goal.at.overflow_sub-height-2 t c).Else-first-eq0)
 
 pub read-next-requires : goal.read-next-requires
 read-next-requires t c =
@@ -113,15 +86,6 @@ pub returns-then-next-eq0 : goal.returns-then-next-eq0
 returns-then-next-eq0 t c =
     second-missing (begun t (goal.at.returns-then-next-eq0 t c).Else-first-eq0) c.read-next.ensures
 
-pub overflow_sub-left-2 : goal.overflow_sub-left-2
-overflow_sub-left-2 t c =
-    omega (arith, some-made (begun t (goal.at.overflow_sub-left-2 t c).Else-first-eq0))
-
-pub overflow_sub-top : goal.overflow_sub-top
-overflow_sub-top t c =
-    let one = begun t (goal.at.overflow_sub-top t c).Else-first-eq0 in
-    omega (arith, more_made one c.read-next.ensures (omega (arith, c.if-next-eq0.false)))
-
 pub make_application-requires : goal.make_application-requires
 make_application-requires t c =
     let one = begun t (goal.at.make_application-requires t c).Else-first-eq0 in
@@ -135,6 +99,6 @@ shape_of-room t c =
 pub returns : goal.returns
 returns t c =
     let kind = kind-told t (goal.at.returns t c).After-byte_at-kind {k = 3}
-    (omega (arith, c.if-kind-eq2.false, c.if-kind-gt3.false, c.if-kind-lt2.false)) in
+    (omega arith) in
     let (next, same, new) = c.make_application.ensures in
     at_application (begun t (goal.at.returns t c).Else-first-eq0) c.read-next.ensures (omega (arith, c.if-next-eq0.false)) kind next same new
