@@ -48,3 +48,6 @@ at_once {s = s} {room = room} rest is = record {
   ran = λ t ready. stays ready (rest t (says room t s.node ready.holds)) is;
   ended = λ one. let wrong : ◌≡◌ {A = ℕ} 0 1 = rw is at one in absurd (omega arith);
 }
+
+-- what closes the goals of `at_rest`
+pub ruleset resting = (rests-normal, rests-variable, rests_shut)

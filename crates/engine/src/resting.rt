@@ -6,6 +6,7 @@ ghost use Rattle.engine.specs.Running.{Rests};
 use orders::{Order, enters};
 
 // Whether a first number tells that its node is at rest: it is normal, or the order does not enter it.
+#[tactic(auto, using(crate::proofs::AtRest::resting))]
 pub(crate) fn at_rest(order: Order, w: u64) -> bool
     ensures { result ≡ true → Rests (order_of order) w }
 {
