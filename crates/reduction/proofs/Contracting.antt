@@ -36,6 +36,46 @@ pub refuses_there : {answer : Answer Term} (why : Refusal) (out store : List ℕ
 unfolding applied_told
 refuses_there why out store is = record { stores = rw is; as_long = refl }
 
+-- WHAT A WEIGHT TELLS, whatever room was asked for
+module _ {store : List ℕ} {body argument : ℕ} {weight : Weight} (weighs : Weighs store body argument weight) where
+  -- 12, of whatever terms the two are
+  weighed : (b a : Term) → Holds store b body → Holds store a argument → {over : Bool} → weight.bursts ≡ over
+      → leb (greatest_index (contract b a)) greatest_number ≡ not over
+  weighed b a h k {over} e =
+      flipped (leb (greatest_index (contract b a)) greatest_number) over (sym (weighs.bursts b a h k) ∙ e)
+
+  module _ {cap : ℕ} {out : List ℕ} where
+    pub great_refused : weight.bursts ≡ true → Contracts cap store body argument out (Refused IndexTooGreat) store out
+    unfolding next_within
+    great_refused over = record {
+      contracts = λ b a h k. refuses_there IndexTooGreat out store (rw (weighed b a h k over));
+    }
+
+    pub high_refused : weight.bursts ≡ false → most_height < weight.height
+        → Contracts cap store body argument out (Refused TooHigh) store out
+    unfolding next_within within
+    high_refused small high = record {
+      contracts = λ b a h k.
+          let tall = weighs.height_is b a h k in
+          refuses_there TooHigh out store
+          (rw (weighed b a h k small, lt-leb (height (contract b a)) most_height (omega arith)));
+    }
+
+    pub many_refused : weight.bursts ≡ false → weight.height ≤ most_height → cap < weight.nodes
+        → Contracts cap store body argument out (Refused TooManyNodes) store out
+    unfolding next_within within
+    many_refused small low many = record {
+      contracts = λ b a h k.
+          let tall = weighs.height_is b a h k in
+          let count = weighs.nodes_are b a h k in
+          refuses_there TooManyNodes out store
+          (rw (
+            weighed b a h k small,
+            le-leb (height (contract b a)) most_height (omega arith),
+            lt-leb (nodes (contract b a)) cap (omega arith),
+          ));
+    }
+
 -- THE RESULT: 12, then 7, then 9
 module _ {cap : ℕ} {store : List ℕ} {used body argument : ℕ} {out : List ℕ}
     (asked : Contractible cap store used body argument out) where
@@ -57,37 +97,18 @@ module _ {cap : ℕ} {store : List ℕ} {used body argument : ℕ} {out : List �
     -- what 12 says of whatever terms the two are
     fine : (b a : Term) → Holds store b body → Holds store a argument → {over : Bool} → weight.bursts ≡ over
         → leb (greatest_index (contract b a)) greatest_number ≡ not over
-    fine b a h k {over} e =
-        flipped (leb (greatest_index (contract b a)) greatest_number) over (sym (weighs.bursts b a h k) ∙ e)
+    fine b a h k e = weighed weighs b a h k e
 
     pub at_overflow : weight.bursts ≡ true → Contracts cap store body argument out (Refused IndexTooGreat) store out
-    unfolding next_within
-    at_overflow over = record { contracts = λ b a h k. refuses_there IndexTooGreat out store (rw (fine b a h k over)) }
+    at_overflow over = great_refused weighs over
 
     module _ (small : weight.bursts ≡ false) where
       pub at_height : most_height < weight.height → Contracts cap store body argument out (Refused TooHigh) store out
-      unfolding next_within within
-      at_height high = record {
-        contracts = λ b a h k.
-            let tall = weighs.height_is b a h k in
-            refuses_there TooHigh out store
-            (rw (fine b a h k small, lt-leb (height (contract b a)) most_height (omega arith)));
-      }
+      at_height high = high_refused weighs small high
 
       module _ (low : weight.height ≤ most_height) where
         pub at_nodes : cap < weight.nodes → Contracts cap store body argument out (Refused TooManyNodes) store out
-        unfolding next_within within
-        at_nodes many = record {
-          contracts = λ b a h k.
-              let tall = weighs.height_is b a h k in
-              let count = weighs.nodes_are b a h k in
-              refuses_there TooManyNodes out store
-              (rw (
-                fine b a h k small,
-                le-leb (height (contract b a)) most_height (omega arith),
-                lt-leb (nodes (contract b a)) cap (omega arith),
-              ));
-        }
+        at_nodes many = many_refused weighs small low many
 
         module _ (few : weight.nodes ≤ cap) where
           pub put_asks : Placeable store used body 0 argument
@@ -145,3 +166,6 @@ module _ {cap : ℕ} {store : List ℕ} {used body argument : ℕ} {out : List �
                     as_long = places.same.as_long;
                   };
             }
+
+-- what closes the goals of `contract` up to the bytes
+pub ruleset contractions = (weigh_asks, great_refused, high_refused, many_refused, put_asks)

@@ -26,6 +26,7 @@ pub enum Applied {
 }
 
 // 12, 7, then 9, of the contraction of an abstraction with this body; its bytes, if it is within the bounds.
+#[tactic(auto, using(crate::proofs::Contracting::contractions))]
 fn contract(
     cap: usize,
     store: &mut [u64],
