@@ -1,5 +1,5 @@
 -- A contraction that is weighed before it is made: what the calls ask, and what each return tells.
-use Prim.Native.Nat.{ℕ, ◌+◌, ◌/◌, ◌-◌, ◌≤◌, ◌<◌}
+use Prim.Native.Nat.{ℕ, ◌+◌, ◌*◌, ◌/◌, ◌-◌, ◌≤◌, ◌<◌}
 use mathlib.Core.Path.{◌≡◌, sym, ◌∙◌}
 use mathlib.Core.Bool.{Bool, true, false, not}
 use mathlib.Core.List.{List}
@@ -7,7 +7,7 @@ use native.Mathlib.Omega.{arith}
 use lib.Dec.{leb}
 use lib.ListN.{length}
 use borrow.Author.Tests.{leb-true, leb-false}
-use Rattle.calculus.specs.Term.{Term, nodes, height, greatest_index}
+use Rattle.calculus.specs.Term.{Term, lam, app, nodes, height, greatest_index}
 use Rattle.calculus.specs.Bounds.{most_height, greatest_number}
 use Rattle.calculus.specs.Substitution.{contract}
 use Rattle.calculus.proofs.Tests.{flipped}
@@ -19,10 +19,11 @@ use Rattle.substitution.specs.declared.weighing.Weight.{Weight}
 use Rattle.substitution.proofs.Counting.{within}
 use Rattle.engine.specs.Judging.{tells_great}
 use Rattle.engine.specs.Contracting.{Contractible, Assured, most_of, full, refuses, Contracted}
-use Rattle.engine.specs.States.{State, halted, advanced}
+use Rattle.engine.specs.States.{State, lent, told, halted, advanced}
 use Rattle.engine.proofs.Parts.{refused_great}
 use Rattle.engine.proofs.Contractions as contractions
 use Rattle.engine.proofs.Contractions.{stays, at_high, at_many}
+use Rattle.engine.proofs.Told.{told_is}
 
 module _ {b a : Term} {depth most : ℕ} {s : State} {body argument : ℕ} {room : List ℕ}
     (can : Contractible b a depth most s body argument room) where
@@ -102,3 +103,29 @@ module _ {b a : Term} {depth most : ℕ} {s : State} {body argument : ℕ} {room
                 → r ≡ advanced s put.node put.used (most - weight.nodes)
                 → Contracted b a depth s room r after
             at_made places is = contractions.at_made assured places low_part count few is
+
+-- the same of what is lent and told
+module _ {b a : Term} {depth most used budget spare : ℕ} {body argument : ℕ} {room : List ℕ} {weight : Weight} {q : ℕ}
+    (can : Contractible b a depth most (lent used budget spare) body argument room)
+    (weighs : Weighs room body argument weight) where
+  pub great_told : weight.bursts ≡ true → q ≡ 0 + 4294967296 * 12
+      → Contracted b a depth (lent used budget spare) room (told q used budget spare) room
+  great_told over is = at_great can weighs over (told_is 0 12 is (omega arith))
+
+  pub high_told : weight.bursts ≡ false → most_height < depth + weight.height → q ≡ 0 + 4294967296 * 7
+      → Contracted b a depth (lent used budget spare) room (told q used budget spare) room
+  high_told small high is = at_height can weighs small high (told_is 0 7 is (omega arith))
+
+  pub full_told : weight.bursts ≡ false → depth + weight.height ≤ most_height → weight.nodes ≤ most
+      → length room / 2 < used + weight.nodes + depth → q ≡ 0 + 4294967296 * 3
+      → Contracted b a depth (lent used budget spare) room (told q used budget spare) room
+  full_told small low few more is = at_full can weighs small low few more (told_is 0 3 is (omega arith))
+
+-- a contraction is at most twice as high as its redex, which is not of height 0
+pub at_most_doubled : (b a : Term)
+    → (0 < height (app (lam b) a)) × (height (contract b a) ≤ height (app (lam b) a) + height (app (lam b) a))
+unfolding height
+at_most_doubled b a = (omega arith, omega (arith, (within 0 a b).low))
+
+-- what closes the sum of the heights and the refusals of `contract_weighed`
+pub ruleset weighings = (at_most_doubled, great_told, high_told, full_told)

@@ -29,6 +29,7 @@ pub(crate) const TOO_GREAT: usize = 12;
 
 // A contraction to at most so many nodes, judged before it is made. Room for the nodes above it is kept: each is made
 // once more on the way out.
+#[tactic(auto, using(crate::proofs::Weighed::weighings))]
 fn contract_weighed(
     room: &mut [u64],
     used: &mut usize,
