@@ -201,6 +201,24 @@ module _ {t : Term} {store : List ℕ} {node base used : ℕ} (can : Copiable t 
               (same_then (omega (arith, left.made)) left.kept right.kept) (omega (arith, left.made))
               (omega (arith, left.made, right.made)) new)
 
+-- the parts of an application that a node is, and their sizes
+pub parts_held : {t : Term} {store : List ℕ} {node : ℕ} → Holds store t node → (kind_in (word store node) ≡ 1 → ⊥)
+    → (kind_in (word store node) ≡ 2 → ⊥)
+    → Holds store t node × ((v : HeldApplication store node t) × (nodes t ≡ nodes v.left + nodes v.right + 1))
+unfolding nodes
+parts_held {t} {store} {node} held not1 not2 =
+    let v = is-application store node refl t held not1 not2 in
+    (held, (v, omega (arith, ap nodes v.same)))
+
+-- a node below those that were added is still the term
+pub still_held : {before after : List ℕ} {used : ℕ} (t : Term) (node : ℕ) → Holds before t node
+    → Same before after used → node < used
+    → Holds before t node × Holds after t node
+still_held t node held same below = (held, holds_kept t node same below held)
+
+-- what closes the goal that the number after a right part is not 0
+pub ruleset copying = (nodes_positive, parts_held, still_held)
+
 -- MOVING DOWN: so many numbers are moved, and those from the base on are as they were
 pub record Moved (before : List ℕ) (base place : ℕ) (store : List ℕ) : Type 0 where
   pub as_long : length store ≡ length before

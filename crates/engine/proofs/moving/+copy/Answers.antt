@@ -73,9 +73,6 @@ overflow_add-base-2 t c = let (_, _, low, _) = parts-copied t (goal.at.overflow_
 pub overflow_sub-middle : goal.overflow_sub-middle
 overflow_sub-middle t c = (parts-copied t (goal.at.overflow_sub-middle t c).After-copy-top-2).0
 
-pub overflow_sub-top-2 : goal.overflow_sub-top-2
-overflow_sub-top-2 t c = let (_, more, _, _) = parts-copied t (goal.at.overflow_sub-top-2 t c).After-copy-top-2 in omega arith
-
 pub pair-requires : goal.pair-requires
 pair-requires t c =
     let (_, more, low, _) = parts-copied t (goal.at.pair-requires t c).After-copy-top-2 in (omega arith, omega arith)
