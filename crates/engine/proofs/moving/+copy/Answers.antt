@@ -84,4 +84,4 @@ pub returns : goal.returns
 returns t c =
     λ u can. at_application can c.kind_of-kind.ensures c.if-kind-eq1.false c.if-kind-eq2.false
     c.left_of.ensures c.copy-middle.ensures c.right_of.ensures
-    c.copy-top-2.ensures c.pair.ensures c.put-2.ensures
+    c.copy-top-2.ensures (omega arith) c.put-2.ensures
