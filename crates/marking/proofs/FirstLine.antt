@@ -1,10 +1,11 @@
 -- The first line part by part: where one is missing it is malformed, and with all of them it is a job.
 use Prim.Native.Nat.{ℕ, ◌+◌, ◌≤◌, ◌<◌}
-use mathlib.Core.Path.{◌≡◌}
-use mathlib.Core.Bool.{Bool, true, false, not}
-use mathlib.Core.List.{List}
-use mathlib.Core.Option.{none, some}
+use mathlib.Core.Path.{◌≡◌, refl}
+use mathlib.Core.Bool.{Bool, true, false, not, cond}
+use mathlib.Core.List.{List, [], ◌∷◌}
+use mathlib.Core.Option.{Option, none, some}
 use native.Mathlib.Omega.{arith}
+use lib.Dec.{eqb}
 use lib.ListN.{length, drop}
 use lib.Seq.{drop-drop}
 use borrow.Author.Tests.{not-true, not-false}
@@ -70,3 +71,23 @@ module _ {s : List ℕ} {o : Order} {limit at : ℕ} (read : Limited s o limit a
     pub a_job : {text : List ℕ} → past 10 (drop (at + 3) s) ≡ some text → first_line s ≡ some (job o limit n text)
     unfolding first_line
     a_job e = rw (read.ordered.order, read.ordered.space, read.limited, read.space, noted, drop-drop, e)
+
+-- MORE THAN SEVEN DIGITS, whatever stands before them
+at_byte : (b : ℕ) (s : List ℕ) (P : Option (List ℕ) → Type 0) → P none → P (some (drop 1 s)) → P (past b s)
+at_byte b [] P missing there = missing
+at_byte b (c ∷ cs) P missing there = by_test (eqb b c)
+  where
+    by_test : (same : Bool) → P (cond same (some cs) none)
+    by_test true = there
+    by_test false = missing
+
+pub too_many_digits : (s : List ℕ) → 7 < length (digits_at s 4) → first_line s ≡ none
+too_many_digits s many = by_order (look_up order_words (word_at s 0)) refl
+  where
+    by_order : (named : Option Order) → look_up order_words (word_at s 0) ≡ named → first_line s ≡ none
+    by_order none order = no-order s order
+    by_order (some o) order =
+        at_byte 32 (drop 3 s) (λ x. past 32 (drop 3 s) ≡ x → first_line s ≡ none)
+        (no-space s order)
+        (λ space. no-limit {o = o} (record { order = order; space = rw drop-drop at space }) (λ h. many))
+        refl

@@ -134,6 +134,7 @@ fn number(s: &[u8], from: usize, end: usize) -> u64
 }
 
 // The parts in a row: the line is malformed if one of them is missing.
+#[tactic(auto, using(crate::proofs::FirstLine::too_many_digits))]
 pub(crate) fn first_line(s: &[u8]) -> Asked
     ensures result_value { asked_told s.now result ≡ first_line s.now }
     ensures text_within { text_within s.now result }

@@ -68,9 +68,6 @@ returns-then-not-byte_at c =
 pub returns-then-end-eq4 : goal.returns-then-end-eq4
 returns-then-end-eq4 c = record { result_value = sym (no-limit (ordered (goal.at.returns-then-end-eq4 c).Else-not-byte_at) (λ h. omega arith)); text_within = tt }
 
-pub returns-then-end-gt11 : goal.returns-then-end-gt11
-returns-then-end-gt11 c = record { result_value = sym (no-limit (ordered (goal.at.returns-then-end-gt11 c).Else-not-byte_at) (λ h. omega arith)); text_within = tt }
-
 pub returns-then-not-byte_at-2 : goal.returns-then-not-byte_at-2
 returns-then-not-byte_at-2 c =
     let after = after-digits _ 4 _ c.digits_end-end.ensures in
