@@ -24,8 +24,9 @@
  * THREADS. The functions have no global state, allocate nothing, call nothing of yours and return the same for the
  * same arguments: any number of them may run at once, on buffers that are not shared.
  *
- * STACK. Measured on the deepest terms, reduce takes 259 KiB of stack and every other function less than 150 KiB. No
- * input makes calls nest without bound, but how much stack they take is not proved (docs/TRUST.md).
+ * STACK. Measured on the deepest terms, with an archive of an older kit of the toolchain, reduce takes 259 KiB of stack
+ * and every other function less than 150 KiB. No input makes calls nest without bound, but how much stack they take is
+ * not proved (docs/TRUST.md).
  */
 #ifndef COPPERJANGLE_H
 #define COPPERJANGLE_H

@@ -1,4 +1,4 @@
-// Asks the exported functions what each line of standard input says, and writes the answers to standard output.
+// Asks the functions of copperjangle what each line of standard input says, and writes the answers to standard output.
 #![tactic(auto)]
 
 ghost use Rattle.std.specs.Io.{ReadsAtMost};
