@@ -5,7 +5,6 @@ use mathlib.Core.Bool.{◌&&◌, ◌||◌, not}
 use mathlib.Core.List.{List}
 use native.Mathlib.Omega.{arith}
 use native.Mathlib.Numerals.{add-one}
-use borrow.Author.Tests.{eq-eqb, ne_eqb}
 use lib.Dec.{eqb}
 use lib.ListN.{length, set, get_or, drop, length-set}
 use Rattle.calculus.specs.Term.{Term, var, lam, nodes, height}
@@ -258,6 +257,3 @@ module _ {s : List ℕ} {at : ℕ} {room : List ℕ} {used : ℕ} {counts : List
   pub at_nothing : {r : Read} → head_in (drop at s) ≡ Nothing → Nameable s at room used counts depth
       → Reads s at room used counts depth r room counts
   at_nothing h asked = absurd (is_something asked.term h asked.stands)
-
--- WHAT A TEST COMES TO where two numbers are the same, or not
-pub ruleset number_tests = (eq-eqb, ne_eqb)

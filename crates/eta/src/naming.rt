@@ -34,7 +34,7 @@ pub(crate) struct Read {
 }
 
 // An abstraction's first number: its binder is lone if it is named once and index 0 is not in the body.
-#[tactic(auto, using(crate::proofs::Loaded::number_tests))]
+#[tactic(auto, using(nodes::proofs::Making::number_tests))]
 fn binder_word(level: usize, count: u64, zero: bool) -> u64
     requires { level < most_height }
     ensures { result ≡ binder_word level (eqb count 1 && not zero) }
