@@ -24,6 +24,7 @@ use Rattle.substitution.proofs.Overflowing.{at_known}
 use Rattle.substitution.proofs.Bursting.{at_none, argument_asks, at_some}
 use Rattle.engine.specs.Contracting.{Redex, Contractible, Assured, most_of, spent, Contracted}
 use Rattle.engine.specs.States.{State, halted, advanced}
+use Rattle.engine.specs.declared.Stop.TheVariants.{Spent, TooHigh, TooManyNodes}
 use Rattle.engine.proofs.Contractions.{stays, at_high, at_many, at_made}
 use Rattle.engine.proofs.Phases.{Fit}
 
@@ -41,12 +42,12 @@ module _ {b a : Term} {depth most : ℕ} {s : State} {body argument : ℕ} {room
       omega (arith, places.below, sure.space, places.same.as_long)
 
   module _ {tall : ℕ} (tall_is : tall ≡ height_in (word after put.node)) where
-    pub made_high : {r : State} → most_height < depth + tall → r ≡ halted s 7 → Contracted b a depth s room r after
+    pub made_high : {r : State} → most_height < depth + tall → r ≡ halted s TooHigh → Contracted b a depth s room r after
     made_high high is =
         at_high sure.can sure.index_small places.same (omega (arith, said.height_is)) is
 
     module _ (low : depth + tall ≤ most_height) {size : ℕ} (size_is : size ≡ nodes_in (word after put.node)) where
-      pub made-many : {r : State} → most < size → r ≡ halted s 9 → Contracted b a depth s room r after
+      pub made-many : {r : State} → most < size → r ≡ halted s TooManyNodes → Contracted b a depth s room r after
       made-many many is =
           at_many sure.can sure.index_small places.same (omega (arith, said.height_is))
           (omega (arith, said.nodes_are)) is
@@ -79,7 +80,7 @@ nodes-most b a =
 -- WHERE IT IS MADE AT ONCE
 module _ {b a : Term} {depth : ℕ} {s : State} {function argument : ℕ} {room : List ℕ}
     (redex : Redex b a depth s function argument room) where
-  pub at_spent : {r : State} → s.budget ≡ 0 → r ≡ halted s 2 → Contracted b a depth s room r room
+  pub at_spent : {r : State} → s.budget ≡ 0 → r ≡ halted s Spent → Contracted b a depth s room r room
   at_spent none_left is = stays (spent none_left) is (same_refl room s.used)
 
   -- the abstraction's body, where its node says

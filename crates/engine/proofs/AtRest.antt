@@ -1,5 +1,5 @@
 -- What a first number tells of a node at rest, and a run that ends there at once.
-use Prim.Native.Nat.{ℕ, ◌<◌}
+use Prim.Native.Nat.{ℕ}
 use mathlib.Core.Path.{◌≡◌, sym, ◌∙◌}
 use mathlib.Core.Bool.{false, false≢true}
 use mathlib.Core.Option.{none}
@@ -11,8 +11,9 @@ use Rattle.calculus.proofs.NextStep.{next-body, no_body}
 use Rattle.nodes.specs.Packing.{kind_in, normal_in}
 use Rattle.nodes.specs.Store.{kind, variable, word}
 use Rattle.nodes.proofs.Keeping.{says}
-use Rattle.engine.specs.Running.{Ready, Runs, Rests}
+use Rattle.engine.specs.Running.{Runs, Rests}
 use Rattle.engine.specs.States.{State, halted}
+use Rattle.engine.specs.declared.Stop.TheVariants.{Rested}
 use Rattle.engine.proofs.Frames.{normal-stuck}
 use Rattle.engine.proofs.Runs.{stays}
 
@@ -38,15 +39,11 @@ module _ (o : Order) {w k : ℕ} where
   pub rests_shut : k ≡ kind_in w → k ≡ 2 → enters o ≡ false → Rests o w
   rests_shut told two shut t said = shut_rests o t shut (sym said.kind_is ∙ sym told ∙ two)
 
--- the number of a node is small
-pub node-low : {t : Term} {room : List ℕ} {depth : ℕ} {s : State} → Ready t room depth s → s.node < 4294967296
-node-low ready = omega (arith, ready.below, ready.inside, ready.small)
-
-pub at_once : {o : Order} {depth : ℕ} {s q : State} {room : List ℕ} → Rests o (word room s.node) → q ≡ halted s 0
-    → Runs o room depth s q room
-at_once {s = s} {room = room} rest is = record {
-  ran = λ t ready. stays ready (rest t (says room t s.node ready.holds)) is;
-  ended = λ one. let wrong : ◌≡◌ {A = ℕ} 0 1 = rw is at one in absurd (omega arith);
+pub at_once : {o : Order} {depth : ℕ} {s : State} {room : List ℕ} → Rests o (word room s.node)
+    → Runs o room depth s (halted s Rested) room
+at_once {s = s} {room = room} rest = record {
+  ran = λ t ready. stays ready (rest t (says room t s.node ready.holds));
+  ended = λ one. cc;
 }
 
 -- what closes the goals of `at_rest`

@@ -14,10 +14,12 @@ use Rattle.engine.specs.Judging.{tells_high, tells_many}
 use Rattle.engine.specs.Contracting.{Contractible, Assured, most_of}
 use Rattle.engine.specs.Contracting.{Why, refuses, Contracted, made, not_made}
 use Rattle.engine.specs.States.{State, halted, advanced}
+use Rattle.engine.specs.declared.Stop.{Stop}
+use Rattle.engine.specs.declared.Stop.TheVariants.{TooHigh, TooManyNodes}
 use Rattle.engine.proofs.Parts.{accepts_part, refused_high, refused-many}
 
 -- it is not made, and what was there is kept
-pub stays : {b a : Term} {depth : ℕ} {s r : State} {room after : List ℕ} {stop : ℕ} → Why b a depth s room stop
+pub stays : {b a : Term} {depth : ℕ} {s r : State} {room after : List ℕ} {stop : Stop} → Why b a depth s room stop
     → r ≡ halted s stop → Same room after s.used
     → Contracted b a depth s room r after
 stays why is same = rw is (not_made why refl refl refl refl same)
@@ -26,12 +28,12 @@ module _ {b a : Term} {depth most : ℕ} {s : State} {body argument : ℕ} {room
     (can : Contractible b a depth most s body argument room)
     (index_small : greatest_index (contract b a) ≤ greatest_number)
     {r : State} {after : List ℕ} (same : Same room after s.used) where
-  pub at_high : most_height < depth + height (contract b a) → r ≡ halted s 7 → Contracted b a depth s room r after
+  pub at_high : most_height < depth + height (contract b a) → r ≡ halted s TooHigh → Contracted b a depth s room r after
   at_high high is =
       stays
       (refuses can.left (refused_high depth (most_of b a s) (contract b a) index_small high) tells_high) is same
 
-  pub at_many : depth + height (contract b a) ≤ most_height → most < nodes (contract b a) → r ≡ halted s 9
+  pub at_many : depth + height (contract b a) ≤ most_height → most < nodes (contract b a) → r ≡ halted s TooManyNodes
       → Contracted b a depth s room r after
   at_many low many is =
       let over : most_of b a s < nodes (contract b a) = omega (arith, can.most_is) in

@@ -1,7 +1,8 @@
 -- How the steps on a whole term end: what the reason to stop says, and that it is the end of a run.
 use Prim.Native.Nat.{ℕ, ◌-◌, ◌≤◌, ◌<◌}
 use mathlib.Core.Path.{◌≡◌, refl, sym, ap, ◌∙◌}
-use mathlib.Core.Option.{some}
+use mathlib.Core.Logic.{◌⊎◌, inl, inr}
+use mathlib.Core.Option.{Option, none, some}
 use mathlib.Core.List.{List}
 use native.Mathlib.Omega.{arith}
 use Rattle.calculus.specs.Term.{Term, nodes}
@@ -19,47 +20,50 @@ use Rattle.engine.specs.Running.{Stops, rested, stepped, spent, full, refuses}
 use Rattle.engine.specs.Stepping as stepping
 use Rattle.engine.specs.Stepping.{Rooted, Ended, Steppable, Found, Steps, finishes, leaves}
 use Rattle.engine.specs.States.{State, standing}
+use Rattle.engine.specs.declared.Stop.{Stop}
+use Rattle.engine.specs.declared.Stop.TheVariants as stopped
 use Rattle.engine.specs.declared.Reached.TheVariants.{Finished, Unfinished, Refused}
 use Rattle.engine.proofs.Parts.{judge_root}
-use Rattle.engine.proofs.Phases.{tells-above, rests}
+use Rattle.engine.proofs.Phases.{rests}
 
--- WHICH REFUSAL a number tells
-told_high : {e : calculus.Refusal} {n : ℕ} → n ≡ 7 → Tells e n → e ≡ refusal_of TooHigh
-told_high is tells_high = refl
-told_high is tells_many = absurd (omega arith)
-told_high is tells_great = absurd (omega arith)
+-- WHICH REFUSAL a reason to stop is
+abbrev refusal_at : Stop → Option calculus.Refusal
+refusal_at stopped.Rested = none
+refusal_at stopped.Stepped = none
+refusal_at stopped.Spent = none
+refusal_at stopped.Full = none
+refusal_at stopped.TooHigh = some calculus.too_high
+refusal_at stopped.TooManyNodes = some calculus.too_many_nodes
+refusal_at stopped.IndexTooGreat = some calculus.index_too_great
 
-told-many : {e : calculus.Refusal} {n : ℕ} → n ≡ 9 → Tells e n → e ≡ refusal_of TooManyNodes
-told-many is tells_high = absurd (omega arith)
-told-many is tells_many = refl
-told-many is tells_great = absurd (omega arith)
-
-told_great : {e : calculus.Refusal} {n : ℕ} → (n ≡ 7 → ⊥) → (n ≡ 9 → ⊥) → Tells e n → e ≡ refusal_of IndexTooGreat
-told_great not7 not9 tells_high = absurd (not7 refl)
-told_great not7 not9 tells_many = absurd (not9 refl)
-told_great not7 not9 tells_great = refl
+told-at : {e : calculus.Refusal} {n : Stop} → Tells e n → refusal_at n ≡ some e
+told-at tells_high = refl
+told-at tells_many = refl
+told-at tells_great = refl
 
 -- WHAT EACH REASON TO STOP says of the next step
 module _ {o : Order} {most budget : ℕ} {t : Term} where
-  step_left : {n : ℕ} → Stops o 0 most budget t n → n ≡ 2 → (budget ≡ 0) × ((u : Term) × (step o t ≡ some u))
-  step_left (rested e) is = absurd (omega arith)
-  step_left stepped is = absurd (omega arith)
+  step_left : {n : Stop} → Stops o 0 most budget t n → n ≡ stopped.Spent
+      → (budget ≡ 0) × ((u : Term) × (step o t ≡ some u))
+  step_left (rested e) is = absurd cc
+  step_left stepped is = absurd cc
   step_left (spent {u} b e) is = (b, (u, e))
-  step_left full is = absurd (omega arith)
-  step_left (refuses b e j tells) is = absurd (omega (arith, tells-above tells))
+  step_left full is = absurd cc
+  step_left (refuses b e j tells_high) is = absurd cc
+  step_left (refuses b e j tells_many) is = absurd cc
+  step_left (refuses b e j tells_great) is = absurd cc
 
-  step-refused : {n : ℕ} → Stops o 0 most budget t n → 3 < n
-      → (0 < budget) × ((u : Term) × (e : calculus.Refusal) × (step o t ≡ some u) × (judge_at 0 most u ≡ some e)
-      × Tells e n)
-  step-refused (rested e) late = absurd (omega arith)
-  step-refused stepped late = absurd (omega arith)
-  step-refused (spent b e) late = absurd (omega arith)
-  step-refused full late = absurd (omega arith)
-  step-refused (refuses {u} {e} b next refused tells) late = (b, (u, e, next, refused, tells))
+  step-refused : {n : Stop} {f : calculus.Refusal} → Stops o 0 most budget t n → refusal_at n ≡ some f
+      → (0 < budget) × ((u : Term) × (step o t ≡ some u) × (judge_at 0 most u ≡ some f))
+  step-refused (rested e) is = absurd cc
+  step-refused stepped is = absurd cc
+  step-refused (spent b e) is = absurd cc
+  step-refused full is = absurd cc
+  step-refused (refuses {u} b next refused tells) is = (b, (u, next, refused ∙ sym (told-at tells) ∙ is))
 
 -- THE STATE AT FIRST
 abbrev pub begun : (cap limit used : ℕ) → State
-begun cap limit used = standing (used - 1) used limit (cap - used)
+begun cap limit used = standing (used - 1) (record { used = used; budget = limit; spare = cap - used })
 
 module _ {t : Term} {cap : ℕ} {store : List ℕ} {used : ℕ} (can : Steppable t cap store used) where
   pub some-used : 0 < used
@@ -103,7 +107,7 @@ module _ {t : Term} {cap : ℕ} {store : List ℕ} {used : ℕ} (can : Steppable
           few = omega (arith, at.size);
         }
 
-    pub at_rest : s.stop ≡ 0 → Steps o t limit cap store (Finished (limit - s.budget) s.node) after
+    pub at_rest : s.stop ≡ stopped.Rested → Steps o t limit cap store (Finished (limit - s.budget) s.node) after
     at_rest is =
         let within : limit - s.budget ≤ limit = omega arith in
         record {
@@ -111,7 +115,7 @@ module _ {t : Term} {cap : ℕ} {store : List ℕ} {used : ℕ} (can : Steppable
           as_long = ended.onward.as_long;
         }
 
-    pub at_limit : s.stop ≡ 2 → Steps o t limit cap store (Unfinished (limit - s.budget) s.node) after
+    pub at_limit : s.stop ≡ stopped.Spent → Steps o t limit cap store (Unfinished (limit - s.budget) s.node) after
     at_limit is =
         let (none_left, (u, next)) = step_left ended.stops is in
         let all : limit - s.budget ≡ limit = omega arith in
@@ -120,24 +124,28 @@ module _ {t : Term} {cap : ℕ} {store : List ℕ} {used : ℕ} (can : Steppable
           as_long = ended.onward.as_long;
         }
 
-    refused_for : (why : Refusal) → 3 < s.stop → ((e : calculus.Refusal) → Tells e s.stop → e ≡ refusal_of why)
+    refused_for : (why : Refusal) → refusal_at s.stop ≡ some (refusal_of why)
         → Steps o t limit cap store (Refused (limit - s.budget) why) after
-    refused_for why late is =
-        let (left, (u, e, next, refused, tells)) = step-refused ended.stops late in
+    refused_for why is =
+        let (left, (u, next, refused)) = step-refused ended.stops is in
         let short : limit - s.budget < limit = omega (arith, budget-left) in
         record {
-          reaches =
-              stepping.refuses (ends_refused short way next (sym (judge_root cap u) ∙ refused ∙ ap some (is e tells)));
+          reaches = stepping.refuses (ends_refused short way next (sym (judge_root cap u) ∙ refused));
           as_long = ended.onward.as_long;
         }
 
-    pub at_height : s.stop ≡ 7 → Steps o t limit cap store (Refused (limit - s.budget) TooHigh) after
-    at_height is = refused_for TooHigh (omega arith) (λ e. told_high is)
+    pub at_height : s.stop ≡ stopped.TooHigh → Steps o t limit cap store (Refused (limit - s.budget) TooHigh) after
+    at_height is = refused_for TooHigh (ap refusal_at is)
 
-    pub at_nodes : s.stop ≡ 9 → Steps o t limit cap store (Refused (limit - s.budget) TooManyNodes) after
-    at_nodes is = refused_for TooManyNodes (omega arith) (λ e. told-many is)
+    pub at_nodes : s.stop ≡ stopped.TooManyNodes
+        → Steps o t limit cap store (Refused (limit - s.budget) TooManyNodes) after
+    at_nodes is = refused_for TooManyNodes (ap refusal_at is)
 
-    pub at_index : (s.stop ≡ 0 → ⊥) → (s.stop ≡ 2 → ⊥) → (s.stop ≡ 7 → ⊥) → (s.stop ≡ 9 → ⊥)
+    pub at_index : s.stop ≡ stopped.IndexTooGreat
         → Steps o t limit cap store (Refused (limit - s.budget) IndexTooGreat) after
-    at_index not0 not2 not7 not9 =
-        refused_for IndexTooGreat (omega (arith, ended.not_stepped, ended.not_full)) (λ e. told_great not7 not9)
+    at_index is = refused_for IndexTooGreat (ap refusal_at is)
+
+    -- the other two are no ends
+    pub no_end : (s.stop ≡ stopped.Stepped) ⊎ (s.stop ≡ stopped.Full) → ⊥
+    no_end (inl is) = ended.not_stepped is
+    no_end (inr is) = ended.not_full is

@@ -12,6 +12,8 @@ use Rattle.calculus.proofs.NextStep.{at_spine, at_early, at_left, at_late, nowhe
 use Rattle.calculus.proofs.Spines.{unless, stuck-var, keeps, late_lazy, plain-late}
 use Rattle.nodes.specs.Store.{Normal, variable, abstraction, application}
 use Rattle.engine.specs.Judging.{judge_at}
+use Rattle.engine.specs.declared.Stop.{Stop}
+use Rattle.engine.specs.declared.Stop.TheVariants.{Rested}
 use Rattle.engine.specs.Running.{Stops, rested, stepped, spent, full, refuses}
 use Rattle.engine.proofs.Parts.{Beside, judge-body, judge-left, judge-right}
 
@@ -47,14 +49,21 @@ module _ {o p : Order} (f : Term → Term) {I : Term → Type 0} {depth most inn
       let (h, k) = lifted j way in
       (go_on g (frame.judged u ∙ a) h, k)
 
-  pub lifted-stop : {budget n : ℕ} {u : Term} → I u → (n ≡ 0 → ⊥) → Stops p inner fewer budget u n
+  -- why a part stops is why the whole does, given that it rests where the part does
+  pub lifted_end : {budget : ℕ} {n : Stop} {u : Term} → I u → (n ≡ Rested → step o (f u) ≡ none)
+      → Stops p inner fewer budget u n
       → Stops o depth most budget (f u) n
-  lifted-stop i going (rested k) = absurd (going refl)
-  lifted-stop i going stepped = stepped
-  lifted-stop {u} i going (spent {u = v} z e) = spent z (frame.goes u v i e).0
-  lifted-stop i going full = full
-  lifted-stop {u} i going (refuses {u = v} some_left e j tells) =
+  lifted_end i last (rested k) = rested (last refl)
+  lifted_end i last stepped = stepped
+  lifted_end {u} i last (spent {u = v} z e) = spent z (frame.goes u v i e).0
+  lifted_end i last full = full
+  lifted_end {u} i last (refuses {u = v} some_left e j tells) =
       refuses some_left (frame.goes u v i e).0 (frame.judged v ∙ j) tells
+
+  -- and so where it doesn't rest
+  pub lifted-stop : {budget : ℕ} {n : Stop} {u : Term} → I u → (n ≡ Rested → ⊥) → Stops p inner fewer budget u n
+      → Stops o depth most budget (f u) n
+  lifted-stop i going = lifted_end i (λ is. absurd (going is))
 
 -- THE FIVE PLACES
 module _ (o : Order) {depth most fewer : ℕ} where

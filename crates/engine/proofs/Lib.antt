@@ -8,6 +8,7 @@ pub mod Phases
 pub mod AtOnce
 pub mod Runs
 pub mod Told
+pub mod Comparing
 pub mod AtRest
 pub mod Redexes
 pub mod Places

@@ -5,11 +5,9 @@ use mathlib.Core.Bool.{true}
 use mathlib.Core.Option.{none}
 use mathlib.Core.List.{List}
 use native.Mathlib.Omega.{arith}
-use native.Mathlib.Decide.{ℕ_discrete}
 use lib.ListN.{length, get_or}
 use Rattle.calculus.specs.Term.{Term, app, nodes, height}
 use Rattle.calculus.specs.Bounds.{most_height}
-use Rattle.calculus.specs.Refusal.{Refusal}
 use Rattle.calculus.specs.Orders.{Order, step}
 use Rattle.calculus.specs.Traits.{spine, eager, hybrid, late}
 use Rattle.calculus.specs.Ends.{Accepted, stay_so}
@@ -18,36 +16,27 @@ use Rattle.calculus.proofs.Running.{accepted_then}
 use Rattle.nodes.specs.Store.{Holds, link}
 use Rattle.nodes.proofs.Keeping.{same_refl, same_then, holds_kept}
 use Rattle.nodes.proofs.Holding.{indices_fit}
-use Rattle.engine.specs.Judging.{judge_at, Tells, tells_high, tells_many, tells_great}
+use Rattle.engine.specs.Judging.{judge_at, tells_high, tells_many, tells_great}
 use Rattle.engine.specs.Running.{Start, started, most, Stops, rested, stepped, spent, full, refuses}
 use Rattle.engine.specs.Running.{Kept, unmoved, moved, Ready, Ran}
 use Rattle.engine.specs.Joining.{Together, together, apart, Parted}
 use Rattle.engine.specs.States.{State, placed}
+use Rattle.engine.specs.declared.Stop.{Stop}
+use Rattle.engine.specs.declared.Stop.TheVariants.{Rested, Stepped, Full}
 use Rattle.engine.proofs.Parts.{Beside}
-use Rattle.engine.proofs.Frames.{Frame, Always, Neutral, lifted, lifted-stop}
+use Rattle.engine.proofs.Frames.{Frame, Always, Neutral, lifted, lifted_end}
 use Rattle.engine.proofs.Frames.{spine-frame, early_frame, left-frame, late-frame}
 
--- refusals have greater numbers than the other reasons to stop
-pub tells-above : {e : Refusal} {n : ℕ} → Tells e n → 3 < n
-tells-above tells_high = omega arith
-tells-above tells_many = omega arith
-tells-above tells_great = omega arith
-
 -- a run that rests has no step left
-pub rests : {o : Order} {depth most budget n : ℕ} {t : Term} → Stops o depth most budget t n → n ≡ 0
+pub rests : {o : Order} {depth most budget : ℕ} {n : Stop} {t : Term} → Stops o depth most budget t n → n ≡ Rested
     → step o t ≡ none
-rests (rested e) zero = e
-rests stepped zero = absurd (omega arith)
-rests (spent b e) zero = absurd (omega arith)
-rests full zero = absurd (omega arith)
-rests (refuses b e j tells) zero = absurd (omega (arith, tells-above tells))
-
--- why a part stops is why the whole does, given that it rests where the part does
-pub lifted_end : {o p : Order} (f : Term → Term) {I : Term → Type 0} {depth most inner fewer budget n : ℕ} {u : Term}
-    → Frame o p f I depth most inner fewer → I u → (n ≡ 0 → step o (f u) ≡ none) → Stops p inner fewer budget u n
-    → Stops o depth most budget (f u) n
-lifted_end f {n = n} frame i last stops =
-    elim (ℕ_discrete n 0) [ yes e ↦ rw e (rested (last e)) | no going ↦ lifted-stop f frame i going stops ]
+rests (rested e) is = e
+rests stepped is = cc
+rests (spent b e) is = cc
+rests full is = cc
+rests (refuses b e j tells_high) is = cc
+rests (refuses b e j tells_many) is = cc
+rests (refuses b e j tells_great) is = cc
 
 -- without a step no node was made
 pub unused : {steps depth left right used : ℕ} {a : Start} {room : List ℕ}
@@ -64,8 +53,8 @@ pub record Halts (o : Order) (depth : ℕ) (a : Start) (l r : Term) (left right 
     : Type 0 where
   pub parted : Parted o depth a l r left right s room
   pub stops : Stops o depth (most a) s.budget (app l r) s.stop
-  pub turned : s.stop ≡ 1 → 0 < parted.steps
-  pub filled : s.stop ≡ 3 → parted.steps ≡ 0 → length a.room < 2 * (a.used + depth + most a)
+  pub turned : s.stop ≡ Stepped → 0 < parted.steps
+  pub filled : s.stop ≡ Full → parted.steps ≡ 0 → length a.room < 2 * (a.used + depth + most a)
 
 -- the parts are those of the node, and no step is made
 pub begun : (o : Order) {depth left right : ℕ} {l r : Term} {s : State} {room : List ℕ}
@@ -235,7 +224,7 @@ module _ {o : Order} {depth : ℕ} {a : Start} {l r : Term} {left right : ℕ} {
         (holds_kept r right ran.same parted.parts.below_right parted.parts.holds_right) ran.below
         (omega (arith, parted.parts.below_right, ran.grows)) (λ e. (e, refl))
 
-    pub left_halts : (q.stop ≡ 0 → step o (app ran.term r) ≡ none)
+    pub left_halts : (q.stop ≡ Rested → step o (app ran.term r) ≡ none)
         → Halts o depth a ran.term r q.node right q after
     unfolding nodes left_then parted_then
     left_halts last =
@@ -253,7 +242,7 @@ module _ {o : Order} {depth : ℕ} {a : Start} {l r : Term} {left right : ℕ} {
         (holds_kept l left ran.same parted.parts.below_left parted.parts.holds_left) ran.holds
         (omega (arith, parted.parts.below_left, ran.grows)) ran.below (λ e. (refl, e))
 
-    pub right_halts : (q.stop ≡ 0 → step o (app l ran.term) ≡ none)
+    pub right_halts : (q.stop ≡ Rested → step o (app l ran.term) ≡ none)
         → Halts o depth a l ran.term left q.node q after
     unfolding nodes right_then parted_then
     right_halts last =

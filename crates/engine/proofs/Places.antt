@@ -16,6 +16,7 @@ use Rattle.nodes.proofs.Holding.{is-application}
 use Rattle.engine.specs.Running.{Start, started, most, Ready, Rested, Ran, Runs}
 use Rattle.engine.specs.Joining.{Parts, Joined, Parted, Here, Resting}
 use Rattle.engine.specs.States.{State, placed}
+use Rattle.engine.specs.declared.Stop.TheVariants as stopped
 use Rattle.engine.proofs.Frames.{Frame, Always, always, Neutral, lifted, rests-hybrid}
 use Rattle.engine.proofs.Phases.{rests, Fit, Halts, begun, left_asks, right_asks, at_spine, at_early, at_left}
 use Rattle.engine.proofs.Phases.{at_late, left_then, left_halts, right_then, right_halts}
@@ -57,7 +58,7 @@ pub record SpineRun (o : Order) (depth : ℕ) (s : State) (right : ℕ) (room : 
 -- a run in the argument, which a trait asks for once the function part is at rest
 pub record ArgumentRun (asked : Bool) (o : Order) (depth : ℕ) (s : State) (right : ℕ) (room : List ℕ) (q : State)
     (after : List ℕ) : Type 0 where
-  pub at_rest : s.stop ≡ 0
+  pub at_rest : s.stop ≡ stopped.Rested
   pub on : asked ≡ true
   pub run : PartRun o depth s right room q after
 
@@ -74,7 +75,7 @@ module _ {o : Order} {depth : ℕ} {l r : Term} {s : State} {room : List ℕ} (r
   pub spine-ran : Ran (spine o) (depth + 1) (started l (placed s (link room s.node % 4294967296)) room) p mid
   spine-ran = spun.run.runs.ran l (left_asks parted)
 
-  pub spine_halts : (p.stop ≡ 0 → ⊥)
+  pub spine_halts : (p.stop ≡ stopped.Rested → ⊥)
       → Halts o depth (started (app l r) s room) spine-ran.term r p.node right p mid
   spine_halts going =
       left_halts parted spine-ran spine-place always (λ e. absurd (going e))
@@ -82,7 +83,7 @@ module _ {o : Order} {depth : ℕ} {l r : Term} {s : State} {room : List ℕ} (r
   stepped_on : Parted o depth (started (app l r) s room) spine-ran.term r p.node right p mid
   stepped_on = left_then parted spine-ran spine-place always
 
-  pub spine-here : p.stop ≡ 0 → eager o ≡ false
+  pub spine-here : p.stop ≡ stopped.Rested → eager o ≡ false
       → Here o depth (started (app l r) s room) spine-ran.term r s.node p.node right p mid
   spine-here zero lazy = record {
     parted = stepped_on;
@@ -104,12 +105,12 @@ module _ {o : Order} {depth : ℕ} {l r : Term} {s : State} {room : List ℕ} (r
     pub early_ran : Ran o (depth + 1) (started r (placed p right) mid) q after
     early_ran = early.run.runs.ran r early_asks
 
-    pub early_halts : (q.stop ≡ 0 → ⊥) → Halts o depth (started (app l r) s room) spine-ran.term
+    pub early_halts : (q.stop ≡ stopped.Rested → ⊥) → Halts o depth (started (app l r) s room) spine-ran.term
         early_ran.term p.node q.node q after
     early_halts going =
         right_halts stepped_on early_ran early_place always (λ e. absurd (going e))
 
-    pub early_here : q.stop ≡ 0 → Here o depth (started (app l r) s room) spine-ran.term early_ran.term
+    pub early_here : q.stop ≡ stopped.Rested → Here o depth (started (app l r) s room) spine-ran.term early_ran.term
         s.node p.node q.node q after
     early_here zero = record {
       parted = right_then stepped_on early_ran early_place always;
@@ -141,7 +142,7 @@ module _ {o : Order} {depth whole left right : ℕ} {a : Start} {l r : Term} {s 
     still_neutral : Neutral o left-ran.term
     still_neutral = (lifted (λ m. app m r) left-place neutral left-ran.way).1
 
-    pub function_halts : (p.stop ≡ 0 → late o ≡ false) → Halts o depth a left-ran.term r p.node right p mid
+    pub function_halts : (p.stop ≡ stopped.Rested → late o ≡ false) → Halts o depth a left-ran.term r p.node right p mid
     function_halts last =
         left_halts so_far left-ran left-place neutral
         (λ e. rests-hybrid o r still_neutral resting.unless (rests left-ran.stops e)
@@ -201,11 +202,11 @@ module _ {o : Order} {depth : ℕ} {l r : Term} {s : State} {room : List ℕ} (r
       pub argument-ran : Ran o (depth + 1) (started r (placed s right) room) q after
       argument-ran = run.ran r argument_asks
 
-      pub argument_halts : (q.stop ≡ 0 → ⊥)
+      pub argument_halts : (q.stop ≡ stopped.Rested → ⊥)
           → Halts o depth (started (app l r) s room) l argument-ran.term left q.node q after
       argument_halts going = right_halts untouched argument-ran argument-place always (λ e. absurd (going e))
 
-      pub rest-after : q.stop ≡ 0
+      pub rest-after : q.stop ≡ stopped.Rested
           → Resting o depth (started (app l r) s room) l argument-ran.term s.node left q.node q after
       rest-after zero = record {
         parted = right_then untouched argument-ran argument-place always;

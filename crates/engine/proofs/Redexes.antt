@@ -20,12 +20,15 @@ use Rattle.nodes.proofs.Keeping.{holds_kept, says, same_then}
 use Rattle.nodes.proofs.Parts.{HeldAbstraction}
 use Rattle.nodes.proofs.Holding.{is-abstraction}
 use Rattle.engine.specs.Running.{Start, most, Stops, rested, stepped, spent, full, refuses, moved, Ran}
+use Rattle.engine.specs.Judging.{tells_high, tells_many, tells_great}
 use Rattle.engine.specs.Joining.{Together, together, apart, Parts, Here, Resting}
 use Rattle.engine.specs.Contracting as contracting
 use Rattle.engine.specs.Contracting.{Redex, most_of, Contracted, Makes, Why, made, not_made}
 use Rattle.engine.specs.States.{State}
+use Rattle.engine.specs.declared.Stop.{Stop}
+use Rattle.engine.specs.declared.Stop.TheVariants.{Stepped, Full}
 use Rattle.engine.proofs.Frames.{Neutral, rests-plain}
-use Rattle.engine.proofs.Phases.{tells-above, unused, Halts}
+use Rattle.engine.proofs.Phases.{unused, Halts}
 
 -- what is written behind the nodes that are used changes nothing
 together-kept : {steps depth : ℕ} {a : Start} {left right used : ℕ} {room after : List ℕ} → a.node < used
@@ -125,32 +128,36 @@ module _ {o : Order} {depth whole left right : ℕ} {a : Start} {l r : Term} {s 
           }
 
       -- why it is not made is why the steps stop
-      why-stops : {n : ℕ} → Why function.body r depth s room n → Stops o depth (most a) s.budget (app l r) n
+      why-stops : {n : Stop} → Why function.body r depth s room n → Stops o depth (most a) s.budget (app l r) n
       why-stops (contracting.spent zero) = spent zero contracts
       why-stops (contracting.full left_over fits) = full
       why-stops (contracting.refuses left_over judged tells) =
           refuses left_over contracts (rw most-same at judged) tells
 
-      why-not_one : {n : ℕ} → Why function.body r depth s room n → n ≡ 1 → ⊥
-      why-not_one (contracting.spent zero) one = omega arith
-      why-not_one (contracting.full left_over fits) one = omega arith
-      why-not_one (contracting.refuses left_over judged tells) one = omega (arith, tells-above tells)
+      why-not_one : {n : Stop} → Why function.body r depth s room n → n ≡ Stepped → ⊥
+      why-not_one (contracting.spent zero) one = cc
+      why-not_one (contracting.full left_over fits) one = cc
+      why-not_one (contracting.refuses left_over judged tells_high) one = cc
+      why-not_one (contracting.refuses left_over judged tells_many) one = cc
+      why-not_one (contracting.refuses left_over judged tells_great) one = cc
 
-      why-full : {n : ℕ} → Why function.body r depth s room n → n ≡ 3 → here.parted.steps ≡ 0
+      why-full : {n : Stop} → Why function.body r depth s room n → n ≡ Full → here.parted.steps ≡ 0
           → length a.room < 2 * (a.used + depth + most a)
-      why-full (contracting.spent zero) three none_made = absurd (omega arith)
-      why-full (contracting.full left_over fits) three none_made =
+      why-full (contracting.spent zero) is none_made = cc
+      why-full (contracting.full left_over fits) is none_made =
           omega (arith, most-same, unused here.parted.parts.kept none_made, here.parted.parts.same.as_long)
-      why-full (contracting.refuses left_over judged tells) three none_made = absurd (omega (arith, tells-above tells))
+      why-full (contracting.refuses left_over judged tells_high) is none_made = cc
+      why-full (contracting.refuses left_over judged tells_many) is none_made = cc
+      why-full (contracting.refuses left_over judged tells_great) is none_made = cc
 
       -- made, or not
-      made_one : {q : State} {after : List ℕ} → Contracted function.body r depth s room q after → q.stop ≡ 1
+      made_one : {q : State} {after : List ℕ} → Contracted function.body r depth s room q after → q.stop ≡ Stepped
           → Ran o depth a q after
       made_one (made makes) one = made-ran makes
       made_one (not_made why used budget spare is same) one = absurd (why-not_one why (sym is ∙ one))
 
       made_none : {q : State} {after : List ℕ} → Contracted function.body r depth s room q after
-          → (q.stop ≡ 1 → ⊥) → Halts o depth a l r left right q after
+          → (q.stop ≡ Stepped → ⊥) → Halts o depth a l r left right q after
       made_none (made makes) other = absurd (other makes.stops)
       made_none (not_made why used budget spare is same) other =
           let was = here.parted in
@@ -171,10 +178,10 @@ module _ {o : Order} {depth whole left right : ℕ} {a : Start} {l r : Term} {s 
 
       module _ {q : State} {after : List ℕ}
           (contracted : (b c : Term) → Redex b c depth s left right room → Contracted b c depth s room q after) where
-        pub contracted-ran : q.stop ≡ 1 → Ran o depth a q after
+        pub contracted-ran : q.stop ≡ Stepped → Ran o depth a q after
         contracted-ran = made_one (contracted function.body r redex)
 
-        pub contracted_halts : (q.stop ≡ 1 → ⊥) → Halts o depth a l r left right q after
+        pub contracted_halts : (q.stop ≡ Stepped → ⊥) → Halts o depth a l r left right q after
         contracted_halts = made_none (contracted function.body r redex)
 
   -- no abstraction: a hybrid order goes on, and others rest
@@ -195,6 +202,6 @@ module _ {o : Order} {depth whole left right : ℕ} {a : Start} {l r : Term} {s 
       record {
         parted = here.parted;
         stops = rw zero (rested (rests-plain o r neutral here.unless off));
-        turned = λ one. absurd (omega arith);
-        filled = λ three none_made. absurd (omega arith);
+        turned = λ one. cc;
+        filled = λ three none_made. cc;
       }

@@ -2,10 +2,9 @@
 use Prim.Native.Nat.{ℕ, ◌+◌, ◌*◌, ◌/◌, ◌%◌, ◌-◌, ◌≤◌, ◌<◌}
 use mathlib.Core.Path.{◌≡◌, refl, sym, ap, ap₂, ◌∙◌}
 use mathlib.Core.List.{List}
-use native.Mathlib.Decide.{dec_lt}
 use native.Mathlib.Omega.{arith}
-use lib.ListN.{length, get_or, drop, set, length-set, length-drop}
-use lib.Seq.{drop-set-add, get_or-set_same, get_or-set_other}
+use lib.ListN.{length, drop, set, length-drop}
+use lib.Seq.{drop-set-add}
 use Rattle.calculus.specs.Term.{Term, var, lam, app, nodes}
 use Rattle.calculus.proofs.Measures.{nodes_positive}
 use Rattle.nodes.specs.Packing.{kind_in}
@@ -15,7 +14,7 @@ use Rattle.nodes.proofs.Stored.{stored}
 use Rattle.nodes.proofs.Making.{variable-made, abstraction-made, application-made}
 use Rattle.nodes.proofs.Parts.{HeldAbstraction, HeldApplication}
 use Rattle.nodes.proofs.Holding.{is-variable, is-abstraction, is-application, held_once}
-use Rattle.engine.specs.Moving.{from_base, Copiable, Copies, Moves}
+use Rattle.engine.specs.Moving.{from_base, Copiable, Copies}
 
 -- A NODE PUT at a number that is counted from a base
 abbrev pub PutFrom : (base top w x : ℕ) (mid : List ℕ) (next : ℕ) (after : List ℕ) → Type 0
@@ -218,34 +217,3 @@ still_held t node held same below = (held, holds_kept t node same below held)
 
 -- what closes the goal that the number after a right part is not 0
 pub ruleset copying = (nodes_positive, parts_held, still_held)
-
--- MOVING DOWN: so many numbers are moved, and those from the base on are as they were
-pub record Moved (before : List ℕ) (base place : ℕ) (store : List ℕ) : Type 0 where
-  pub as_long : length store ≡ length before
-  pub moved : (k : ℕ) → k < place → get_or store k 0 ≡ get_or before (2 * base + k) 0
-  pub kept : (k : ℕ) → 2 * base ≤ k → get_or store k 0 ≡ get_or before k 0
-
-pub none-moved : (before : List ℕ) (base : ℕ) → Moved before base 0 before
-none-moved before base = record { as_long = refl; moved = λ k lt. absurd (omega arith); kept = λ k le. refl }
-
-pub one_moved : {before : List ℕ} {base place : ℕ} {store : List ℕ} → Moved before base place store → place < 2 * base
-    → place < length store
-    → Moved before base (place + 1) (set store place (get_or store (2 * base + place) 0))
-one_moved {base = base} {place} {store} so_far below inside =
-    let x = get_or store (2 * base + place) 0 in
-    record {
-      as_long = length-set store place x ∙ so_far.as_long;
-      moved = λ k lt.
-          elim (dec_lt k place) [
-            | yes less ↦ get_or-set_other store place k x 0 (λ e. omega arith) ∙ so_far.moved k less
-            | no more ↦
-                let last : k ≡ place = omega arith in
-                rw last (get_or-set_same store place x 0 inside ∙ so_far.kept (2 * base + place) (omega arith))
-          ];
-      kept = λ k le. get_or-set_other store place k x 0 (λ e. omega arith) ∙ so_far.kept k le;
-    }
-
-pub all_moved : {before : List ℕ} {base count place : ℕ} {store : List ℕ} → Moved before base place store
-    → 2 * count ≤ place
-    → Moves before base count store
-all_moved so_far all = record { as_long = so_far.as_long; moved = λ k lt. so_far.moved k (omega arith) }

@@ -22,8 +22,10 @@ use Rattle.engine.specs.Running.{Start, started, most, Stops, rested}
 use Rattle.engine.specs.Running.{Kept, unmoved, moved, Ready, Ran, Runs}
 use Rattle.engine.specs.Joining.{Body, Joined}
 use Rattle.engine.specs.States.{State, placed, halted}
-use Rattle.engine.proofs.Frames.{normal-stuck, Frame, Always, always, lifted, body-frame}
-use Rattle.engine.proofs.Phases.{rests, lifted_end}
+use Rattle.engine.specs.declared.Stop.{Stop}
+use Rattle.engine.specs.declared.Stop.TheVariants.{Rested, Stepped, Full}
+use Rattle.engine.proofs.Frames.{normal-stuck, Frame, Always, always, lifted, lifted_end, body-frame}
+use Rattle.engine.proofs.Phases.{rests}
 
 -- what a test that is turned about tells
 pub turned_about : {b c d : Bool} → b ≡ c → not b ≡ d → c ≡ not d
@@ -73,8 +75,8 @@ module _ {t : Term} {s : State} {room : List ℕ} {depth k : ℕ} (ready : Ready
 module _ {o : Order} {depth : ℕ} where
   -- and why they stop
   pub gone_ran : {a : Start} {s : State} {room : List ℕ} (gone : Gone o depth a s room)
-      → Stops o depth (most a) s.budget gone.term s.stop → (s.stop ≡ 1 → 0 < gone.steps)
-      → (s.stop ≡ 3 → gone.steps ≡ 0 → length room < 2 * (a.used + depth + most a)) → Ran o depth a s room
+      → Stops o depth (most a) s.budget gone.term s.stop → (s.stop ≡ Stepped → 0 < gone.steps)
+      → (s.stop ≡ Full → gone.steps ≡ 0 → length room < 2 * (a.used + depth + most a)) → Ran o depth a s room
   gone_ran gone stops turned filled = record {
     term = gone.term;
     steps = gone.steps;
@@ -95,7 +97,7 @@ module _ {o : Order} {depth : ℕ} where
 
   module _ {t : Term} {s : State} {room : List ℕ} (ready : Ready t room depth s) where
     -- none so far
-    pub none_gone : (stop : ℕ) → Gone o depth (started t s room) (halted s stop) room
+    pub none_gone : (stop : Stop) → Gone o depth (started t s room) (halted s stop) room
     none_gone stop = record {
       term = t;
       steps = 0;
@@ -139,7 +141,7 @@ module _ {o : Order} {depth : ℕ} where
           same = same_then gone.grows gone.same ran.same;
         }
 
-        pub gone_last : (q.stop ≡ 1 → ⊥) → Ran o depth (started t s room) q after
+        pub gone_last : (q.stop ≡ Stepped → ⊥) → Ran o depth (started t s room) q after
         unfolding gone_on
         gone_last ended =
             gone_ran gone_on (rw gone.size at ran.stops) (λ one. absurd (ended one))
@@ -147,26 +149,25 @@ module _ {o : Order} {depth : ℕ} where
             omega (arith, none_made gone.kept (omega arith), ran.filled three (omega arith), gone.size))
 
   -- NO STEP
-  pub stays : {t : Term} {s q : State} {room : List ℕ} → Ready t room depth s → step o t ≡ none → q ≡ halted s 0
-      → Ran o depth (started t s room) q room
+  pub stays : {t : Term} {s : State} {room : List ℕ} → Ready t room depth s → step o t ≡ none
+      → Ran o depth (started t s room) (halted s Rested) room
   unfolding none_gone
-  stays ready none_left is = rw is (gone_ran (none_gone ready 0) (rested none_left) (λ one. absurd (omega arith))
-      (λ three zero. absurd (omega arith)))
+  stays ready none_left = gone_ran (none_gone ready Rested) (rested none_left) (λ one. cc) (λ three zero. cc)
 
   -- A ROUND, by what the node says of its term
-  module _ {t : Term} {s q : State} {room : List ℕ} (ready : Ready t room depth s) where
-    pub stays_normal : {n : ℕ} → n ≡ normal_in (word room s.node) → n ≡ 1 → q ≡ halted s 0
-        → Ran o depth (started t s room) q room
-    stays_normal told one is =
-        stays ready (normal-stuck o ((says room t s.node ready.holds).is_normal (sym told ∙ one))) is
+  module _ {t : Term} {s : State} {room : List ℕ} (ready : Ready t room depth s) where
+    pub stays_normal : {n : ℕ} → n ≡ normal_in (word room s.node) → n ≡ 1
+        → Ran o depth (started t s room) (halted s Rested) room
+    stays_normal told one =
+        stays ready (normal-stuck o ((says room t s.node ready.holds).is_normal (sym told ∙ one)))
 
     module _ {k : ℕ} (told : k ≡ kind_in (word room s.node)) where
-      pub stays_variable : k ≡ 1 → q ≡ halted s 0 → Ran o depth (started t s room) q room
-      stays_variable one is =
+      pub stays_variable : k ≡ 1 → Ran o depth (started t s room) (halted s Rested) room
+      stays_variable one =
           let variable_is = is-variable room s.node told t ready.holds one in
-          stays ready (rw variable_is (normal-stuck o variable)) is
+          stays ready (rw variable_is (normal-stuck o variable))
 
-      module _ {after : List ℕ} where
+      module _ {q : State} {after : List ℕ} where
         pub in_abstraction : k ≡ 2
             → ((b : Term) → Ready (lam b) room depth s → Ran o depth (started (lam b) s room) q after)
             → Ran o depth (started t s room) q after
@@ -185,8 +186,8 @@ module _ {o : Order} {depth : ℕ} where
   pub joined-ran : {steps : ℕ} {a : Start} {t : Term} {s w : State} {after : List ℕ}
       → Accepted (judge_at depth (most a)) o steps a.term t → s.budget + steps ≡ a.budget
       → nodes t + s.spare ≡ most a → depth + height t ≤ most_height
-      → Stops o depth (most a) s.budget t s.stop → (s.stop ≡ 1 → 0 < steps)
-      → (s.stop ≡ 3 → steps ≡ 0 → length a.room < 2 * (a.used + depth + most a))
+      → Stops o depth (most a) s.budget t s.stop → (s.stop ≡ Stepped → 0 < steps)
+      → (s.stop ≡ Full → steps ≡ 0 → length a.room < 2 * (a.used + depth + most a))
       → Joined steps depth a t s w after → Ran o depth a w after
   joined-ran {steps} {t = t} way count size deep stops turned filled joined = record {
     term = t;
@@ -208,9 +209,8 @@ module _ {o : Order} {depth : ℕ} where
 
 -- AN ABSTRACTION
 module _ {depth : ℕ} {b : Term} {s : State} {room : List ℕ} (ready : Ready (lam b) room depth s) where
-  pub stays_shut : {o : Order} {q : State} → enters o ≡ false → q ≡ halted s 0
-      → Ran o depth (started (lam b) s room) q room
-  stays_shut {o} shut is = stays ready (next-body o (no_body (λ e. absurd (false≢true (sym shut ∙ e))))) is
+  pub stays_shut : {o : Order} → enters o ≡ false → Ran o depth (started (lam b) s room) (halted s Rested) room
+  stays_shut {o} shut = stays ready (next-body o (no_body (λ e. absurd (false≢true (sym shut ∙ e)))))
 
   pub body_asks : Ready b room (depth + 1) (placed s (link room s.node))
   unfolding Holds nodes height

@@ -15,7 +15,8 @@ use Rattle.nodes.proofs.Keeping.{holds-moved}
 use Rattle.engine.specs.Running.{Ready, Ran, Runs, started}
 use Rattle.engine.specs.Moving.{from_base, Copiable, Copies, Movable, Moves}
 use Rattle.engine.specs.Stepping.{Rooted, RunsFirst, Renewed, Onward, Ended}
-use Rattle.engine.specs.States.{State, standing}
+use Rattle.engine.specs.States.{State, restarted}
+use Rattle.engine.specs.declared.Stop.TheVariants.{Full}
 
 module _ {t : Term} {cap : ℕ} {s : State} {store : List ℕ} (at : Rooted t cap s store) where
   -- ROUNDS in the first part of the store
@@ -71,7 +72,7 @@ module _ {t : Term} {cap : ℕ} {s : State} {store : List ℕ} (at : Rooted t ca
     }
 
     pub renewed : {after : List ℕ} → Moves mid (3 * cap) top after
-        → Renewed t cap s (standing (top - 1) top s.budget s.spare) after
+        → Renewed t cap s (restarted s top) after
     renewed {after} moves = record {
       rooted = record {
         in_bounds = at.in_bounds;
@@ -152,7 +153,7 @@ module _ {o : Order} {t : Term} {cap : ℕ} {from s : State} {store now : List �
     as_long = runs.as_long ∙ been.as_long;
   }
 
-  pub at_end : (q.stop ≡ 3 → ⊥) → Ended o t cap from q store after
+  pub at_end : (q.stop ≡ Full → ⊥) → Ended o t cap from q store after
   unfolding on
   at_end not_full = record {
     onward = on;
@@ -169,7 +170,7 @@ module _ {o : Order} {t : Term} {cap : ℕ} {from s : State} {store now : List �
     new = renew on.term on.rooted
 
     -- all but the term's nodes were free, so there was room for a step
-    pub budget_falls : q.stop ≡ 3 → r.budget < s.budget
+    pub budget_falls : q.stop ≡ Full → r.budget < s.budget
     budget_falls stuck =
         elim (dec_lt 0 ran.steps) [
           | yes more ↦ omega (arith, new.budget_same, ran.count)

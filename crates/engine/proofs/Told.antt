@@ -1,82 +1,71 @@
--- An answer is a node and why a run stopped there, as a pair: what it tells.
-use Prim.Native.Nat.{ℕ, ◌+◌, ◌*◌, ◌/◌, ◌%◌, ◌<◌}
-use mathlib.Core.Path.{◌≡◌, refl, sym, ◌∙◌}
+-- An answer is a node and why a run stopped there: what it tells.
+use Prim.Native.Nat.{ℕ}
+use mathlib.Core.Path.{◌≡◌, refl, sym}
 use mathlib.Core.List.{List}
-use native.Mathlib.Omega.{arith}
 use Rattle.calculus.specs.Term.{Term}
 use Rattle.calculus.specs.Orders.{Order}
 use Rattle.engine.specs.Running.{Start, Kept, unmoved, moved}
 use Rattle.engine.specs.Joining.{Joined, Parts, Parted, Here, Resting}
 use Rattle.engine.specs.States.{State, lent, told, placed, renoded}
+use Rattle.engine.specs.declared.Stop.{Stop}
+use Rattle.engine.specs.declared.At.{At}
+use Rattle.engine.specs.declared.Work.{Work}
 use Rattle.engine.proofs.Runs.{Gone}
 
-module _ {q : ℕ} (node stop : ℕ) (paired : q ≡ node + 4294967296 * stop) (low : node < 4294967296) where
-  pub node-told : q % 4294967296 ≡ node
-  node-told = omega arith
+pub told_is : {node : ℕ} {stop : Stop} {work : Work} → told (record { node = node; stop = stop }) work
+    ≡ record { node = node; used = work.used; budget = work.budget; spare = work.spare; stop = stop }
+told_is = refl
 
-  pub stop-told : q / 4294967296 ≡ stop
-  stop-told = omega arith
+-- a node made again, answered with the same reason to stop
+pub joined-told : {steps depth n u next node : ℕ} {stop : Stop} {a : Start} {t : Term} (p : At) (work : Work)
+    {after : List ℕ} → p.stop ≡ stop
+    → Joined steps depth a t (renoded (told p work) n u) (renoded (renoded (told p work) n u) node next) after
+    → Joined steps depth a t (told p work) (told (record { node = node; stop = stop })
+    (record { used = next; budget = work.budget; spare = work.spare })) after
+joined-told p work is joined = rw (sym is) (record {
+  holds = joined.holds;
+  below = joined.below;
+  grows = joined.grows;
+  inside = joined.inside;
+  kept = joined.kept;
+  same = joined.same;
+  budget_same = refl;
+  spare_same = refl;
+  stop_same = refl;
+})
 
-  pub told_is : {used budget spare : ℕ} → told q used budget spare
-      ≡ record { node = node; used = used; budget = budget; spare = spare; stop = stop }
-  told_is = rw (node-told, stop-told) refl
-
-  kept-told : {steps depth first begun used budget spare long : ℕ} {r : State} → r.node ≡ node → r.used ≡ used
-      → Kept steps depth first begun r long → Kept steps depth first begun (told q used budget spare) long
-  kept-told is at_used (unmoved none_made n u) = unmoved none_made (node-told ∙ sym is ∙ n) (sym at_used ∙ u)
-  kept-told is at_used (moved some space) = moved some (rw (sym at_used) space)
-
-  -- a node made again, answered with the same reason to stop
-  pub joined-told : {steps depth n u next : ℕ} {a : Start} {t : Term} (s : State) {after : List ℕ}
-      → s.stop ≡ stop → Joined steps depth a t (renoded s n u) (renoded (renoded s n u) node next) after
-      → Joined steps depth a t s (told q next s.budget s.spare) after
-  joined-told s is joined = record {
-    holds = rw node-told joined.holds;
-    below = rw node-told joined.below;
-    grows = joined.grows;
-    inside = joined.inside;
-    kept = kept-told refl refl joined.kept;
-    same = joined.same;
-    budget_same = refl;
-    spare_same = refl;
-    stop_same = stop-told ∙ sym is;
-  }
-
--- AN APPLICATION UNDER WAY: no law looks at the node of its state, nor at why the last run stopped; and its parts are
--- where the answers tell
+-- AN APPLICATION UNDER WAY: no law looks at the node of its state, nor at why the last run stopped
 pub parts_at : {steps depth left right m n used : ℕ} {a : Start} {l r : Term} {room : List ℕ} → left ≡ m → right ≡ n
     → Parts steps depth a l r m n used room → Parts steps depth a l r left right used room
 parts_at left_is right_is parts = rw (left_is, right_is) parts
 
-parted-lent : {o : Order} {depth left right m n : ℕ} {a : Start} {l r : Term} {s : State} {room : List ℕ} → left ≡ m
-    → right ≡ n → Parted o depth a l r m n s room
-    → Parted o depth a l r left right (lent s.used s.budget s.spare) room
-parted-lent left_is right_is parted = record {
+parted-lent : {o : Order} {depth left right : ℕ} {a : Start} {l r : Term} {s : State} {room : List ℕ}
+    → Parted o depth a l r left right s room → Parted o depth a l r left right (lent (record { used = s.used; budget = s.budget; spare = s.spare })) room
+parted-lent parted = record {
   steps = parted.steps;
   way = parted.way;
   count = parted.count;
   size = parted.size;
   few = parted.few;
   deep = parted.deep;
-  parts = parts_at left_is right_is parted.parts;
+  parts = parted.parts;
 }
 
-module _ {o : Order} {depth whole left right m n : ℕ} {a : Start} {l r : Term} {s : State} {room : List ℕ}
-    (left_is : left ≡ m) (right_is : right ≡ n) where
-  pub here-lent : Here o depth a l r whole m n s room
-      → Here o depth a l r whole left right (lent s.used s.budget s.spare) room
+module _ {o : Order} {depth whole left right : ℕ} {a : Start} {l r : Term} {s : State} {room : List ℕ} where
+  pub here-lent : Here o depth a l r whole left right s room
+      → Here o depth a l r whole left right (lent (record { used = s.used; budget = s.budget; spare = s.spare })) room
   here-lent here = record {
-    parted = parted-lent left_is right_is here.parted;
+    parted = parted-lent here.parted;
     at_whole = here.at_whole;
     at_rest = refl;
     stuck = here.stuck;
     unless = here.unless;
   }
 
-  pub resting-lent : Resting o depth a l r whole m n s room
-      → Resting o depth a l r whole left right (lent s.used s.budget s.spare) room
+  pub resting-lent : Resting o depth a l r whole left right s room
+      → Resting o depth a l r whole left right (lent (record { used = s.used; budget = s.budget; spare = s.spare })) room
   resting-lent resting = record {
-    parted = parted-lent left_is right_is resting.parted;
+    parted = parted-lent resting.parted;
     at_whole = resting.at_whole;
     stuck = resting.stuck;
     unless = resting.unless;
@@ -90,9 +79,9 @@ kept-placed (unmoved none_made n u) = unmoved none_made n u
 kept-placed (moved some space) = moved some space
 
 -- the steps so far, to go on from
-pub gone_placed : {o : Order} {depth node : ℕ} {a : Start} {s : State} {room : List ℕ} → node ≡ s.node
-    → Gone o depth a s room → Gone o depth a (placed s node) room
-gone_placed is gone = rw is (record {
+pub gone_placed : {o : Order} {depth : ℕ} {a : Start} {s : State} {room : List ℕ} → Gone o depth a s room
+    → Gone o depth a (placed s s.node) room
+gone_placed gone = record {
   term = gone.term;
   steps = gone.steps;
   way = gone.way;
@@ -105,4 +94,4 @@ gone_placed is gone = rw is (record {
   inside = gone.inside;
   kept = kept-placed gone.kept;
   same = gone.same;
-})
+}

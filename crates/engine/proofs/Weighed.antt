@@ -1,6 +1,6 @@
 -- A contraction that is weighed before it is made: what the calls ask, and what each return tells.
 use Prim.Native.Nat.{ℕ, ◌+◌, ◌*◌, ◌/◌, ◌-◌, ◌≤◌, ◌<◌}
-use mathlib.Core.Path.{◌≡◌, sym, ◌∙◌}
+use mathlib.Core.Path.{◌≡◌, refl, sym, ◌∙◌}
 use mathlib.Core.Bool.{Bool, true, false, not}
 use mathlib.Core.List.{List}
 use native.Mathlib.Omega.{arith}
@@ -20,10 +20,11 @@ use Rattle.substitution.proofs.Counting.{within}
 use Rattle.engine.specs.Judging.{tells_great}
 use Rattle.engine.specs.Contracting.{Contractible, Assured, most_of, full, refuses, Contracted}
 use Rattle.engine.specs.States.{State, lent, told, halted, advanced}
+use Rattle.engine.specs.declared.Work.{Work}
+use Rattle.engine.specs.declared.Stop.TheVariants.{Full, TooHigh, TooManyNodes, IndexTooGreat}
 use Rattle.engine.proofs.Parts.{refused_great}
 use Rattle.engine.proofs.Contractions as contractions
 use Rattle.engine.proofs.Contractions.{stays, at_high, at_many}
-use Rattle.engine.proofs.Told.{told_is}
 
 module _ {b a : Term} {depth most : ℕ} {s : State} {body argument : ℕ} {room : List ℕ}
     (can : Contractible b a depth most s body argument room) where
@@ -60,7 +61,7 @@ module _ {b a : Term} {depth most : ℕ} {s : State} {body argument : ℕ} {room
         flipped (leb (greatest_index (contract b a)) greatest_number) over
         (sym (weighs.bursts b a can.holds can.holds_put) ∙ e)
 
-    pub at_great : {r : State} → weight.bursts ≡ true → r ≡ halted s 12 → Contracted b a depth s room r room
+    pub at_great : {r : State} → weight.bursts ≡ true → r ≡ halted s IndexTooGreat → Contracted b a depth s room r room
     at_great over is =
         let great = leb-false (greatest_index (contract b a)) greatest_number (tested over) in
         stays (refuses can.left (refused_great depth (most_of b a s) (contract b a) great) tells_great) is
@@ -70,7 +71,7 @@ module _ {b a : Term} {depth most : ℕ} {s : State} {body argument : ℕ} {room
       index_small : greatest_index (contract b a) ≤ greatest_number
       index_small = leb-true (greatest_index (contract b a)) greatest_number (tested small)
 
-      pub at_height : {r : State} → most_height < depth + weight.height → r ≡ halted s 7
+      pub at_height : {r : State} → most_height < depth + weight.height → r ≡ halted s TooHigh
           → Contracted b a depth s room r room
       at_height high is = at_high can index_small (same_refl room s.used) (omega (arith, tall)) is
 
@@ -78,12 +79,12 @@ module _ {b a : Term} {depth most : ℕ} {s : State} {body argument : ℕ} {room
         low_part : depth + height (contract b a) ≤ most_height
         low_part = omega (arith, tall)
 
-        pub at_nodes : {r : State} → most < weight.nodes → r ≡ halted s 9 → Contracted b a depth s room r room
+        pub at_nodes : {r : State} → most < weight.nodes → r ≡ halted s TooManyNodes → Contracted b a depth s room r room
         at_nodes many is =
             at_many can index_small (same_refl room s.used) low_part (omega (arith, count)) is
 
         module _ (few : weight.nodes ≤ most) where
-          pub at_full : {r : State} → length room / 2 < s.used + weight.nodes + depth → r ≡ halted s 3
+          pub at_full : {r : State} → length room / 2 < s.used + weight.nodes + depth → r ≡ halted s Full
               → Contracted b a depth s room r room
           at_full more is =
               stays (full can.left (omega (arith, can.most_is))) is (same_refl room s.used)
@@ -105,21 +106,21 @@ module _ {b a : Term} {depth most : ℕ} {s : State} {body argument : ℕ} {room
             at_made places is = contractions.at_made assured places low_part count few is
 
 -- the same of what is lent and told
-module _ {b a : Term} {depth most used budget spare : ℕ} {body argument : ℕ} {room : List ℕ} {weight : Weight} {q : ℕ}
-    (can : Contractible b a depth most (lent used budget spare) body argument room)
+module _ {b a : Term} {depth most : ℕ} {work : Work} {body argument : ℕ} {room : List ℕ} {weight : Weight}
+    (can : Contractible b a depth most (lent work) body argument room)
     (weighs : Weighs room body argument weight) where
-  pub great_told : weight.bursts ≡ true → q ≡ 0 + 4294967296 * 12
-      → Contracted b a depth (lent used budget spare) room (told q used budget spare) room
-  great_told over is = at_great can weighs over (told_is 0 12 is (omega arith))
+  pub great_told : weight.bursts ≡ true
+      → Contracted b a depth (lent work) room (told (record { node = 0; stop = IndexTooGreat }) work) room
+  great_told over = at_great can weighs over refl
 
-  pub high_told : weight.bursts ≡ false → most_height < depth + weight.height → q ≡ 0 + 4294967296 * 7
-      → Contracted b a depth (lent used budget spare) room (told q used budget spare) room
-  high_told small high is = at_height can weighs small high (told_is 0 7 is (omega arith))
+  pub high_told : weight.bursts ≡ false → most_height < depth + weight.height
+      → Contracted b a depth (lent work) room (told (record { node = 0; stop = TooHigh }) work) room
+  high_told small high = at_height can weighs small high refl
 
   pub full_told : weight.bursts ≡ false → depth + weight.height ≤ most_height → weight.nodes ≤ most
-      → length room / 2 < used + weight.nodes + depth → q ≡ 0 + 4294967296 * 3
-      → Contracted b a depth (lent used budget spare) room (told q used budget spare) room
-  full_told small low few more is = at_full can weighs small low few more (told_is 0 3 is (omega arith))
+      → length room / 2 < work.used + weight.nodes + depth
+      → Contracted b a depth (lent work) room (told (record { node = 0; stop = Full }) work) room
+  full_told small low few more = at_full can weighs small low few more refl
 
 -- a contraction is at most twice as high as its redex, which is not of height 0
 pub at_most_doubled : (b a : Term)

@@ -8,6 +8,8 @@ use Rattle.calculus.specs.Substitution.{contract}
 use Rattle.nodes.specs.Store.{Holds, Same}
 use Rattle.engine.specs.Judging.{judge_at, Tells}
 use Rattle.engine.specs.States.{State}
+use Rattle.engine.specs.declared.Stop.{Stop}
+use Rattle.engine.specs.declared.Stop.TheVariants.{Stepped, Spent, Full}
 
 -- an abstraction and its argument, so deep in a whole that is within the bounds
 pub record Redex (b a : Term) (depth : ℕ) (s : State) (function argument : ℕ) (room : List ℕ) : Type 0 where
@@ -45,7 +47,7 @@ pub record Assured (b a : Term) (depth most : ℕ) (s : State) (body argument : 
 
 -- the contraction is accepted and made
 pub record Makes (b a : Term) (depth : ℕ) (s : State) (before : List ℕ) (r : State) (after : List ℕ) : Type 0 where
-  pub stops : r.stop ≡ 1
+  pub stops : r.stop ≡ Stepped
   pub accepted : judge_at depth (most_of b a s) (contract b a) ≡ none
   pub holds : Holds after (contract b a) r.node
   pub below : r.node < r.used
@@ -57,15 +59,15 @@ pub record Makes (b a : Term) (depth : ℕ) (s : State) (before : List ℕ) (r :
   pub same : Same before after s.used
 
 -- why it is not made: the budget is spent, the next term is refused, or the room is full
-pub data Why (b a : Term) (depth : ℕ) (s : State) (room : List ℕ) : ℕ → Type 0 where
-  spent : s.budget ≡ 0 → Why b a depth s room 2
-  full : 0 < s.budget → length room < 2 * (s.used + depth + most_of b a s) → Why b a depth s room 3
-  refuses : {e : Refusal} {n : ℕ} → 0 < s.budget → judge_at depth (most_of b a s) (contract b a) ≡ some e → Tells e n
+pub data Why (b a : Term) (depth : ℕ) (s : State) (room : List ℕ) : Stop → Type 0 where
+  spent : s.budget ≡ 0 → Why b a depth s room Spent
+  full : 0 < s.budget → length room < 2 * (s.used + depth + most_of b a s) → Why b a depth s room Full
+  refuses : {e : Refusal} {n : Stop} → 0 < s.budget → judge_at depth (most_of b a s) (contract b a) ≡ some e → Tells e n
       → Why b a depth s room n
 
 -- the contraction is made, or the nodes before are as they were
 pub data Contracted (b a : Term) (depth : ℕ) (s : State) (before : List ℕ) : State → List ℕ → Type 0 where
   made : {r : State} {after : List ℕ} → Makes b a depth s before r after → Contracted b a depth s before r after
-  not_made : {r : State} {after : List ℕ} {stop : ℕ} → Why b a depth s before stop → r.used ≡ s.used
+  not_made : {r : State} {after : List ℕ} {stop : Stop} → Why b a depth s before stop → r.used ≡ s.used
       → r.budget ≡ s.budget → r.spare ≡ s.spare → r.stop ≡ stop → Same before after s.used
       → Contracted b a depth s before r after

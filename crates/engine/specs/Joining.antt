@@ -10,6 +10,7 @@ use Rattle.nodes.specs.Store.{Holds, Same, link}
 use Rattle.engine.specs.Judging.{judge_at}
 use Rattle.engine.specs.Running.{Start, most, Kept}
 use Rattle.engine.specs.States.{State}
+use Rattle.engine.specs.declared.Stop.TheVariants.{Rested}
 
 -- AN ABSTRACTION, whose body is another term now, at the state's node
 pub record Body (steps depth : ℕ) (a : Start) (b : Term) (s : State) (room : List ℕ) : Type 0 where
@@ -81,7 +82,7 @@ pub record Here (o : Order) (depth : ℕ) (a : Start) (l r : Term) (whole left r
     : Type 0 where
   pub parted : Parted o depth a l r left right s room
   pub at_whole : whole ≡ a.node
-  pub at_rest : s.stop ≡ 0
+  pub at_rest : s.stop ≡ Rested
   pub stuck : step (spine o) l ≡ none
   pub unless : eager o ≡ true → step o r ≡ none
 

@@ -10,6 +10,9 @@ use Rattle.calculus.specs.Ends.{Accepted}
 use Rattle.nodes.specs.Store.{Says, Holds, Same}
 use Rattle.engine.specs.Judging.{judge_at, Tells}
 use Rattle.engine.specs.States.{State}
+use Rattle.engine.specs.declared.Stop.{Stop}
+use Rattle.engine.specs.declared.Stop.TheVariants as stopped
+use Rattle.engine.specs.declared.Stop.TheVariants.{Stepped, Spent, Full}
 
 -- how a part stood at first: its term and its node, and what else the state said; and the room
 pub record Start : Type 0 where
@@ -35,17 +38,17 @@ abbrev pub most : Start → ℕ
 most a = nodes a.term + a.spare
 
 -- why a run stops at a term
-pub data Stops (o : Order) (depth most budget : ℕ) (t : Term) : ℕ → Type 0 where
+pub data Stops (o : Order) (depth most budget : ℕ) (t : Term) : Stop → Type 0 where
   -- no step is left
-  rested : step o t ≡ none → Stops o depth most budget t 0
+  rested : step o t ≡ none → Stops o depth most budget t stopped.Rested
   -- a contraction was made here
-  stepped : Stops o depth most budget t 1
+  stepped : Stops o depth most budget t Stepped
   -- a step is left, and the budget is spent
-  spent : {u : Term} → budget ≡ 0 → step o t ≡ some u → Stops o depth most budget t 2
+  spent : {u : Term} → budget ≡ 0 → step o t ≡ some u → Stops o depth most budget t Spent
   -- the room is full
-  full : Stops o depth most budget t 3
+  full : Stops o depth most budget t Full
   -- the next term is refused
-  refuses : {u : Term} {e : Refusal} {n : ℕ} → 0 < budget → step o t ≡ some u → judge_at depth most u ≡ some e
+  refuses : {u : Term} {e : Refusal} {n : Stop} → 0 < budget → step o t ≡ some u → judge_at depth most u ≡ some e
       → Tells e n
       → Stops o depth most budget t n
 
@@ -89,9 +92,9 @@ pub record Ran (o : Order) (depth : ℕ) (a : Start) (s : State) (after : List �
   pub kept : Kept steps depth a.node a.used s (length after)
   pub same : Same a.room after a.used
   -- a contraction here is a step
-  pub turned : s.stop ≡ 1 → 0 < steps
+  pub turned : s.stop ≡ Stepped → 0 < steps
   -- the room is full before a step only if it was nearly full
-  pub filled : s.stop ≡ 3 → steps ≡ 0 → length after < 2 * (a.used + depth + most a)
+  pub filled : s.stop ≡ Full → steps ≡ 0 → length after < 2 * (a.used + depth + most a)
 
 -- steps in a part that is the term
 abbrev pub RunsOn : (o : Order) (t : Term) (before : List ℕ) (depth : ℕ) (from s : State) (after : List ℕ) → Type 0
@@ -100,4 +103,4 @@ RunsOn o t before depth from s after = Ready t before depth from → Ran o depth
 -- rounds, the last of which did not end in a contraction here
 pub record Runs (o : Order) (before : List ℕ) (depth : ℕ) (from s : State) (after : List ℕ) : Type 0 where
   pub ran : (t : Term) → RunsOn o t before depth from s after
-  pub ended : s.stop ≡ 1 → ⊥
+  pub ended : s.stop ≡ Stepped → ⊥

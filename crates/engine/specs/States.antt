@@ -1,5 +1,9 @@
 -- How a run stands, as what the engine's functions lend and answer tells it.
-use Rattle.std.specs.Prelude.{ℕ, ◌-◌, ◌/◌, ◌%◌}
+use Rattle.std.specs.Prelude.{ℕ, ◌-◌}
+use Rattle.engine.specs.declared.Stop.{Stop}
+use Rattle.engine.specs.declared.Stop.TheVariants.{Rested, Stepped}
+use Rattle.engine.specs.declared.At.{At}
+use Rattle.engine.specs.declared.Work.{Work}
 
 -- the node of its part, the number of the next node, the steps that may still be made, the nodes by which the whole
 -- term may still grow, and why it stopped
@@ -8,29 +12,35 @@ pub record State : Type 0 where
   pub used : ℕ
   pub budget : ℕ
   pub spare : ℕ
-  pub stop : ℕ
+  pub stop : Stop
 
--- the lent numbers and a node to begin at
-abbrev pub standing : (node used budget spare : ℕ) → State
-standing node used budget spare = record { node = node; used = used; budget = budget; spare = spare; stop = 0 }
+-- what is lent and a node to begin at
+abbrev pub standing : (node : ℕ) → Work → State
+standing node work = record {
+  node = node;
+  used = work.used;
+  budget = work.budget;
+  spare = work.spare;
+  stop = Rested;
+}
 
 -- at no node
-abbrev pub lent : (used budget spare : ℕ) → State
+abbrev pub lent : Work → State
 lent = standing 0
 
--- the lent numbers and an answer: a node and why the run stopped there, as a pair
-abbrev pub told : (answer used budget spare : ℕ) → State
-told answer used budget spare = record {
-  node = answer % 4294967296;
-  used = used;
-  budget = budget;
-  spare = spare;
-  stop = answer / 4294967296;
+-- what is lent and an answer: a node and why the run stopped there
+abbrev pub told : At → Work → State
+told answer work = record {
+  node = answer.node;
+  used = work.used;
+  budget = work.budget;
+  spare = work.spare;
+  stop = answer.stop;
 }
 
 -- the same state at another node to begin at, at one that was made, and stopped
 abbrev pub placed : State → ℕ → State
-placed s node = record { node = node; used = s.used; budget = s.budget; spare = s.spare; stop = 0 }
+placed s node = record { node = node; used = s.used; budget = s.budget; spare = s.spare; stop = Rested }
 
 abbrev pub renoded : State → (node used : ℕ) → State
 renoded s node used = record {
@@ -41,8 +51,12 @@ renoded s node used = record {
   stop = s.stop;
 }
 
-abbrev pub halted : State → ℕ → State
+abbrev pub halted : State → Stop → State
 halted s stop = record { node = s.node; used = s.used; budget = s.budget; spare = s.spare; stop = stop }
+
+-- the state once its term is the first nodes, the last of which it is
+abbrev pub restarted : State → (used : ℕ) → State
+restarted s used = record { node = used - 1; used = used; budget = s.budget; spare = s.spare; stop = Rested }
 
 -- the state once a contraction is made
 abbrev pub advanced : State → (node used spare : ℕ) → State
@@ -51,5 +65,5 @@ advanced s node used spare = record {
   used = used;
   budget = s.budget - 1;
   spare = spare;
-  stop = 1;
+  stop = Stepped;
 }

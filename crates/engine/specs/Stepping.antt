@@ -12,6 +12,7 @@ use Rattle.nodes.specs.Store.{Holds}
 use Rattle.engine.specs.Judging.{judge_at}
 use Rattle.engine.specs.Running.{started, Ran, Stops}
 use Rattle.engine.specs.States.{State}
+use Rattle.engine.specs.declared.Stop.TheVariants.{Stepped, Full}
 use Rattle.engine.specs.declared.Reached.{Reached}
 use Rattle.engine.specs.declared.Reached.TheVariants.{Finished, Unfinished, Refused}
 
@@ -29,7 +30,7 @@ pub record Rooted (t : Term) (cap : ℕ) (s : State) (store : List ℕ) : Type 0
 pub record RunsFirst (o : Order) (t : Term) (cap : ℕ) (from : State) (store : List ℕ) (s : State) (after : List ℕ)
     : Type 0 where
   pub ran : Ran o 0 (started t from (take (6 * cap) store)) s (take (6 * cap) after)
-  pub ended : s.stop ≡ 1 → ⊥
+  pub ended : s.stop ≡ Stepped → ⊥
   pub as_long : length after ≡ length store
 
 -- the term is the first nodes, and no other node is used
@@ -52,8 +53,8 @@ pub record Onward (o : Order) (t : Term) (cap : ℕ) (from s : State) (store aft
 pub record Ended (o : Order) (t : Term) (cap : ℕ) (from s : State) (store after : List ℕ) : Type 0 where
   pub onward : Onward o t cap from s store after
   pub stops : Stops o 0 cap s.budget onward.term s.stop
-  pub not_stepped : s.stop ≡ 1 → ⊥
-  pub not_full : s.stop ≡ 3 → ⊥
+  pub not_stepped : s.stop ≡ Stepped → ⊥
+  pub not_full : s.stop ≡ Full → ⊥
 
 -- the last of so many nodes is a term within the bounds that has just these
 pub record Steppable (t : Term) (cap : ℕ) (store : List ℕ) (used : ℕ) : Type 0 where

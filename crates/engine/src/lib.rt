@@ -10,10 +10,9 @@ mod rounds;
 ghost use Rattle.std.specs.Prelude.{◌≡◌, ◌-◌};
 ghost use Rattle.calculus.specs.Term.{Term, nodes};
 ghost use Rattle.orders.specs.Orders.{order_of};
-ghost use Rattle.engine.specs.States.{State, standing, told};
+ghost use Rattle.engine.specs.States.{State, standing, told, restarted};
 ghost use Rattle.engine.specs.Stepping.{Rooted, RunsFirst, Renewed, Ended, Steppable, Steps};
 
-use contracting::{FULL, RESTED, SPENT, TOO_HIGH, TOO_MANY};
 use orders::Order;
 use term::Refusal;
 
@@ -25,40 +24,49 @@ pub enum Reached {
     Refused { steps: u64, why: Refusal },
 }
 
+// Why a run stops: no step is left; a contraction was made here; a step is left, and the budget is spent; the room is
+// full; or the next term is refused.
+#[derive(Clone, Copy, Debug, PartialEq, Eq)]
+pub(crate) enum Stop {
+    Rested,
+    Stepped,
+    Spent,
+    Full,
+    TooHigh,
+    TooManyNodes,
+    IndexTooGreat,
+}
+
+// The node that a part has become, and why the run stops there.
+#[derive(Clone, Copy, Debug, PartialEq, Eq)]
+pub(crate) struct At {
+    pub(crate) node: usize,
+    pub(crate) stop: Stop,
+}
+
+// What a run has, lent down the recursion: the number of the next node, the steps that may still be made, and the nodes
+// by which the whole term may still grow.
+#[derive(Clone, Copy, Debug, PartialEq, Eq)]
+pub(crate) struct Work {
+    pub(crate) used: usize,
+    pub(crate) budget: u64,
+    pub(crate) spare: u64,
+}
+
 // Rounds in the store's first part, at the root.
-fn run_first(
-    cap: usize,
-    order: Order,
-    store: &mut [u64],
-    used: &mut usize,
-    budget: &mut u64,
-    spare: &mut u64,
-    node: usize,
-) -> u64
-    requires { (t : Term) × Rooted t cap (standing node used.old budget.old spare.old) store.old }
-    ensures { (t : Term)
-        → Rooted t cap (standing node used.old budget.old spare.old)
-        store.old
-        → RunsFirst (order_of order) t cap
-        (standing node used.old budget.old spare.old) store.old
-        (told result used.new budget.new spare.new) store.new }
+fn run_first(cap: usize, order: Order, store: &mut [u64], work: &mut Work, node: usize) -> At
+    requires { (t : Term) × Rooted t cap (standing node work.old) store.old }
+    ensures { (t : Term) → Rooted t cap (standing node work.old) store.old
+        → RunsFirst (order_of order) t cap (standing node work.old) store.old (told result work.new) store.new }
 {
-    rounds::run(
-        &mut store[..moving::FIRST * cap],
-        used,
-        budget,
-        spare,
-        order,
-        node,
-        0,
-    )
+    rounds::run(&mut store[..moving::FIRST * cap], work, order, node, 0)
 }
 
 // The term of a node made anew as the first nodes, so that all others are free; how many they are.
 fn renew(cap: usize, node: usize, store: &mut [u64]) -> usize
     requires { (t : Term) × (s : State) × (s.node ≡ node) × Rooted t cap s store.old }
     ensures { (t : Term) (s : State) → s.node ≡ node → Rooted t cap s store.old
-        → Renewed t cap s (standing (result - 1) result s.budget s.spare) store.new }
+        → Renewed t cap s (restarted s result) store.new }
 {
     let base = moving::FIRST / 2 * cap;
     let used = moving::copy(store, node, base, 0);
@@ -67,33 +75,19 @@ fn renew(cap: usize, node: usize, store: &mut [u64]) -> usize
 }
 
 // Steps until one of the ends; where the room is full, the term is made anew and the work goes on.
-fn run_all(
-    cap: usize,
-    order: Order,
-    store: &mut [u64],
-    used: &mut usize,
-    budget: &mut u64,
-    spare: &mut u64,
-) -> u64
-    requires { (t : Term)
-        × Rooted t cap (standing (used.old - 1) used.old budget.old spare.old) store.old
-        × (used.old ≡ nodes t) }
-    ensures { (t : Term)
-        → Rooted t cap
-        (standing (used.old - 1) used.old budget.old spare.old)
-        store.old
-        → used.old ≡ nodes t
-        → Ended (order_of order) t cap
-        (standing (used.old - 1) used.old budget.old spare.old)
-        (told result used.new budget.new spare.new)
-        store.old store.new }
+fn run_all(cap: usize, order: Order, store: &mut [u64], work: &mut Work) -> At
+    requires { (t : Term) × Rooted t cap (standing (work.old.used - 1) work.old) store.old
+        × (work.old.used ≡ nodes t) }
+    ensures { (t : Term) → Rooted t cap (standing (work.old.used - 1) work.old) store.old
+        → work.old.used ≡ nodes t
+        → Ended (order_of order) t cap (standing (work.old.used - 1) work.old) (told result work.new) store.old store.new }
 {
     loop {
-        let q = run_first(cap, order, store, used, budget, spare, *used - 1);
-        if nodes::right_of(q) != FULL {
+        let q = run_first(cap, order, store, work, work.used - 1);
+        if q.stop != Stop::Full {
             return q;
         }
-        *used = renew(cap, nodes::left_of(q), store);
+        work.used = renew(cap, q.node, store);
     }
 }
 
@@ -103,33 +97,29 @@ pub fn steps(cap: usize, order: Order, limit: u64, store: &mut [u64], from: usiz
     ensures { (t : Term) → Steppable t cap store.old from
         → Steps (order_of order) t limit cap store.old result store.new }
 {
-    let mut used = from;
-    let mut budget = limit;
-    let mut spare = (cap - from) as u64;
-    let end = run_all(cap, order, store, &mut used, &mut budget, &mut spare);
-    let steps = limit - budget;
-    let node = nodes::left_of(end);
-    let stop = nodes::right_of(end);
-    if stop == RESTED {
-        return Reached::Finished { steps, node };
-    }
-    if stop == SPENT {
-        return Reached::Unfinished { steps, node };
-    }
-    if stop == TOO_HIGH {
-        return Reached::Refused {
+    let mut work = Work {
+        used: from,
+        budget: limit,
+        spare: (cap - from) as u64,
+    };
+    let end = run_all(cap, order, store, &mut work);
+    let steps = limit - work.budget;
+    let node = end.node;
+    match end.stop {
+        Stop::Rested => Reached::Finished { steps, node },
+        Stop::Spent => Reached::Unfinished { steps, node },
+        Stop::TooHigh => Reached::Refused {
             steps,
             why: Refusal::TooHigh,
-        };
-    }
-    if stop == TOO_MANY {
-        return Reached::Refused {
+        },
+        Stop::TooManyNodes => Reached::Refused {
             steps,
             why: Refusal::TooManyNodes,
-        };
-    }
-    Reached::Refused {
-        steps,
-        why: Refusal::IndexTooGreat,
+        },
+        Stop::IndexTooGreat => Reached::Refused {
+            steps,
+            why: Refusal::IndexTooGreat,
+        },
+        Stop::Stepped | Stop::Full => unreachable!(),
     }
 }

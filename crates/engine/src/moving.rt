@@ -32,9 +32,5 @@ pub(crate) fn move_down(store: &mut [u64], base: usize, count: usize)
     requires { Movable store.old base count }
     ensures { Moves store.old base count store.new }
 {
-    let mut place: usize = 0;
-    while place < 2 * count {
-        store[place] = store[2 * base + place];
-        place += 1;
-    }
+    store.copy_within(2 * base..2 * (base + count), 0);
 }

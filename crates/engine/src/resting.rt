@@ -3,7 +3,7 @@ ghost use Rattle.std.specs.Prelude.{◌≡◌, true};
 ghost use Rattle.orders.specs.Orders.{order_of};
 ghost use Rattle.engine.specs.Running.{Rests};
 
-use orders::{Order, enters};
+use orders::Order;
 
 // Whether a first number tells that its node is at rest: it is normal, or the order does not enter it.
 #[tactic(auto, using(crate::proofs::AtRest::resting))]
@@ -18,7 +18,7 @@ pub(crate) fn at_rest(order: Order, w: u64) -> bool
         return true;
     }
     if kind == 2 {
-        return !enters(order);
+        return !order.enters_bodies();
     }
     false
 }

@@ -20,12 +20,11 @@ use Rattle.calculus.proofs.Measures.{nodes_positive}
 use Rattle.calculus.proofs.Putting.{Puts}
 use Rattle.calculus.proofs.Sizes.{nine_per_node, size_positive}
 use Rattle.calculus.proofs.Coding.{AllBytes}
-use Rattle.term.specs.Answers.{check_told, check_of}
+use Rattle.term.specs.Answers.{told, check_of}
 use Rattle.term.specs.FactsOf.{facts_of}
 use Rattle.term.specs.Surveys.{Admitted}
 use Rattle.term.specs.declared.Facts.{Facts}
-use Rattle.term.specs.declared.Checked.{Checked}
-use Rattle.term.specs.declared.Checked.TheVariants as checks
+use Rattle.std.specs.Prelude.{Result, Ok, Err}
 use Rattle.term.specs.declared.Refusal.{Refusal}
 use Rattle.term.proofs.Checking.{check-whole, check_admits}
 use Rattle.term.proofs.Places.{size-within}
@@ -60,8 +59,8 @@ among_none first e = let never : ◌≡◌ {A = ℕ} 0 1 = cc in omega arith
 among_none (later a) e = let never : ◌≡◌ {A = ℕ} 0 1 = cc in omega arith
 
 -- THE LEVELS that a checked term needs, by its height
-pub checked-levels : (cap : ℕ) (s : List ℕ) {r : Checked} → check_told r ≡ check_of cap s → AllBytes s → {f : Facts}
-    → r ≡ checks.Whole f
+pub checked-levels : (cap : ℕ) (s : List ℕ) {r : Result Facts Refusal} → told r ≡ check_of cap s → AllBytes s → {f : Facts}
+    → r ≡ Ok f
     → Levelled cap s f.height × (f.height ≤ most_height)
 unfolding facts_of
 checked-levels cap s says bytes e =

@@ -1,4 +1,5 @@
 -- Loading a named term: at each head, what the calls ask and what they come to.
+use Rattle.std.specs.Prelude.{Some}
 use Prim.Native.Nat.{ℕ, ◌+◌, ◌-◌, ◌*◌, ◌≤◌, ◌<◌}
 use mathlib.Core.Path.{◌≡◌, ap, ◌∙◌}
 use mathlib.Core.Bool.{◌&&◌, ◌||◌, not}
@@ -13,8 +14,8 @@ use Rattle.calculus.proofs.Measures.{nodes_positive, height_positive}
 use Rattle.calculus.proofs.Sizes.{size, size_positive}
 use Rattle.term.specs.Heads.{head_in}
 use Rattle.term.specs.Surveys.{Stands}
-use Rattle.term.specs.declared.Head.TheVariants.{Variable, Abstraction, Application, Nothing}
-use Rattle.term.proofs.Places.{is-variable, is-abstraction, is-application, is_something, size-within}
+use Rattle.term.specs.declared.Head.TheVariants.{Variable, Abstraction, Application}
+use Rattle.term.proofs.Places.{is-variable, is-abstraction, is-application, size-within}
 use Rattle.nodes.specs.Store.{Same}
 use Rattle.nodes.proofs.Keeping.{same_then}
 use Rattle.eta.specs.Named.{binds, named, uses, has_zero}
@@ -65,7 +66,7 @@ module _ {s : List ℕ} {at : ℕ} {room : List ℕ} {used : ℕ} {counts : List
   depth_inside asked = omega (arith, asked.deep, height_positive asked.term)
 
   -- A VARIABLE
-  module _ {i : ℕ} (h : head_in (drop at s) ≡ Variable i) where
+  module _ {i : ℕ} (h : head_in (drop at s) ≡ Some (Variable i)) where
     pub variable-inside : Nameable s at room used counts depth → at + 9 ≤ length s
     unfolding size
     variable-inside asked =
@@ -94,7 +95,7 @@ module _ {s : List ℕ} {at : ℕ} {room : List ℕ} {used : ℕ} {counts : List
         })
 
   -- AN ABSTRACTION
-  module _ (h : head_in (drop at s) ≡ Abstraction) (asked : Nameable s at room used counts depth) where
+  module _ (h : head_in (drop at s) ≡ Some Abstraction) (asked : Nameable s at room used counts depth) where
     pub body_asks : Nameable s (at + 1) room used (set counts depth 0) (depth + 1)
     unfolding nodes height
     body_asks =
@@ -158,7 +159,7 @@ module _ {s : List ℕ} {at : ℕ} {room : List ℕ} {used : ℕ} {counts : List
           })
 
   -- AN APPLICATION
-  module _ (h : head_in (drop at s) ≡ Application) (asked : Nameable s at room used counts depth) where
+  module _ (h : head_in (drop at s) ≡ Some Application) (asked : Nameable s at room used counts depth) where
     pub left_asks : Nameable s (at + 1) room used counts depth
     unfolding nodes height
     left_asks =
@@ -254,6 +255,3 @@ module _ {s : List ℕ} {at : ℕ} {room : List ℕ} {used : ℕ} {counts : List
             })
 
   -- NOTHING is never met where a term stands
-  pub at_nothing : {r : Read} → head_in (drop at s) ≡ Nothing → Nameable s at room used counts depth
-      → Reads s at room used counts depth r room counts
-  at_nothing h asked = absurd (is_something asked.term h asked.stands)

@@ -19,7 +19,6 @@ use naming::load;
 use nodes::lending::{Granted, grant};
 use nodes::runs::Run;
 use shrinking::shrink;
-use term::Checked;
 use writing::write;
 
 // One number for each binder that can be open at once, which are fewer than a term is high: no term is higher than
@@ -53,6 +52,22 @@ fn contract_places(
     }
 }
 
+// The same, with so many numbers of its own.
+fn contract_within<const N: usize>(
+    cap: usize,
+    limit: u64,
+    s: &[u8],
+    out: &mut [u8],
+    store: &mut [u64],
+) -> Run
+    requires { Lent cap out.old store.old × Levelled cap s.now N × (N ≤ most_height) }
+    ensures { Works (run_on (checked cap s.now) (eta limit))
+        out.old store.old result out.new store.new }
+{
+    let mut levels = [0u64; N];
+    contract_places(cap, limit, s, out, store, &mut levels)
+}
+
 // The same, of a term of this height: to clear 512 numbers would take as long as a good part of a short run.
 fn contract_levels(
     cap: usize,
@@ -67,11 +82,9 @@ fn contract_levels(
         out.old store.old result out.new store.new }
 {
     if height <= FEW_LEVELS as u64 {
-        let mut few = [0u64; FEW_LEVELS];
-        return contract_places(cap, limit, s, out, store, &mut few);
+        return contract_within::<FEW_LEVELS>(cap, limit, s, out, store);
     }
-    let mut levels = [0u64; LEVELS];
-    contract_places(cap, limit, s, out, store, &mut levels)
+    contract_within::<LEVELS>(cap, limit, s, out, store)
 }
 
 // All that comes after 1 and 2: the input's refusals, then the steps.
@@ -81,8 +94,8 @@ fn work(cap: usize, limit: u64, s: &[u8], out: &mut [u8], store: &mut [u64]) -> 
         out.old store.old result out.new store.new }
 {
     match term::check(cap as u64, s) {
-        Checked::Refused(why) => Run::Refused { steps: 0, why },
-        Checked::Whole(facts) => contract_levels(cap, limit, s, out, store, facts.height),
+        Err(why) => Run::Refused { steps: 0, why },
+        Ok(facts) => contract_levels(cap, limit, s, out, store, facts.height),
     }
 }
 

@@ -80,7 +80,8 @@ pub(crate) fn load(
     ensures { Reads s.now at room.old used counts.old depth result
         room.new counts.new }
 {
-    match term::head_at(s, at) {
+    // a term stands here
+    match term::head_at(s, at).unwrap() {
         Head::Variable(index) => Read {
             next: at + 9,
             used: name(room, used, counts, depth, index),
@@ -107,11 +108,5 @@ pub(crate) fn load(
                 zero: term::either(left.zero, right.zero),
             }
         }
-        // not met: a term stands here
-        Head::Nothing => Read {
-            next: at,
-            used,
-            zero: false,
-        },
     }
 }

@@ -8,8 +8,8 @@ use native.Mathlib.Omega.{arith}
 use native.Mathlib.Decide.{dec_lt}
 use native.Mathlib.Numerals.{add-one}
 use native.Mathlib.Nat.{pow-suc, pow-le-pow_right, lt_of_lt_of_le}
-use lib.ListN.{length, drop, get_or, drop_of_length-le}
-use lib.Seq.{drop-cons, drop-drop}
+use lib.ListN.{length, take, drop, get_or, drop_of_length-le, length-drop}
+use lib.Seq.{drop-cons, drop-drop, length-take-le, get_or-take, get_or-drop}
 use borrow.Author.Tests.{le-leb}
 use Rattle.calculus.specs.Numbers.{between, from_digits}
 use Rattle.calculus.specs.Words.{start, rest}
@@ -37,6 +37,17 @@ pub a_digit : {s : List ℕ} {at : ℕ} → DigitAt s at → digits_at s at ≡ 
 a_digit {s} {at} digit =
     rw (drop-cons s at 0 digit.stands, add-one)
     (start-goes is_figure _ _ (is-between 48 57 (get_or s at 0) digit.low digit.high))
+
+pub a_figure : (s : List ℕ) (at : ℕ) → at < length s → is_figure (get_or s at 0) ≡ true
+    → length (digits_at s at) ≡ length (digits_at s (at + 1)) + 1
+a_figure s at h e =
+    let first : digits_at s at ≡ get_or s at 0 ∷ digits_at s (at + 1) =
+    rw (drop-cons s at 0 h, add-one) (start-goes is_figure _ _ e) in
+    omega (arith, ap length first)
+
+pub no_figure : (s : List ℕ) (at : ℕ) → at < length s → is_figure (get_or s at 0) ≡ false
+    → length (digits_at s at) ≡ 0
+no_figure s at h e = rw (drop-cons s at 0 h, start-stops is_figure (get_or s at 0) (drop (suc at) s) e)
 
 module _ (s : List ℕ) (at : ℕ) where
   pub digits-over : length s ≤ at → length (digits_at s at) ≡ 0
@@ -127,3 +138,43 @@ module _ {s : List ℕ} {from end : ℕ} (digits : Digits s from end) where
           small = rw (passed, pow-suc) (omega arith);
           read = so_far.read ∙ ap (read_on value) (a_digit digit);
         }
+
+-- digits stand within the input, and are the bytes of the slice between the offsets
+start_short : (test : ℕ → Bool) (cs : List ℕ) → length (start test cs) ≤ length cs
+unfolding start
+start_short test [] = omega arith
+start_short test (c ∷ cs) =
+    elim (test c) as (λ b. length {A = ℕ} (elim b [ true ↦ c ∷ start test cs | false ↦ [] ]) ≤ suc (length cs)) [
+      | true ↦ omega (arith, start_short test cs)
+      | false ↦ omega arith
+    ]
+
+module _ {s : List ℕ} {from end : ℕ} (digits : Digits s from end) where
+  pub digits-inside : end ≤ length s
+  digits-inside =
+      omega (arith, digits.all, digits.any, start_short is_figure (drop from s), length-drop from s)
+
+  pub slice-length : length (take (end - from) (drop from s)) ≡ end - from
+  slice-length = length-take-le (end - from) (drop from s) (omega (arith, digits-inside, length-drop from s))
+
+  between-offsets : (i : ℕ) → i < length (take (end - from) (drop from s))
+      → (from + i < end) × (get_or (take (end - from) (drop from s)) i 0 ≡ get_or s (from + i) 0)
+  between-offsets i h =
+      let below : i < end - from = omega (arith, slice-length) in
+      (omega arith, get_or-take (end - from) (drop from s) i 0 below ∙ get_or-drop from s i 0)
+
+  module _ {i value : ℕ} (so_far : SoFar s from end (from + i) value)
+      (h : i < length (take (end - from) (drop from s))) where
+    pub slice-digit : (48 ≤ get_or (take (end - from) (drop from s)) i 0)
+        × (get_or (take (end - from) (drop from s)) i 0 ≤ 57) × (value < 10 ^ 7)
+    slice-digit =
+        let (below, same) = between-offsets i h in
+        let (digit, small) = next-digit digits so_far below in
+        rw same (digit.low, digit.high, small)
+
+    pub slice-read : {d : ℕ} → d ≡ get_or (take (end - from) (drop from s)) i 0 - 48
+        → SoFar s from end (from + (i + 1)) (value * 10 + d)
+    slice-read e =
+        let (below, same) = between-offsets i h in
+        let one : from + (i + 1) ≡ from + i + 1 = omega arith in
+        rw (one, e, same) (one_read digits so_far below)

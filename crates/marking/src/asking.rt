@@ -40,18 +40,7 @@ fn stands(s: &[u8], at: usize, word: &[u8; 3]) -> bool
     requires { length word.now ≡ 3 }
     ensures { result ≡ same_text (word_at s.now at) word.now }
 {
-    if s.len() < 3 {
-        return false;
-    }
-    if s.len() - 3 < at {
-        return false;
-    }
-    for i in 0..3 {
-        if s[at + i] != word[i] {
-            return false;
-        }
-    }
-    true
+    at <= s.len() && s[at..].starts_with(word)
 }
 
 // The order, if its word stands at an offset, and else what another word named.
@@ -98,27 +87,19 @@ fn notation_at(s: &[u8], at: usize) -> NamedNotation
 fn byte_at(s: &[u8], at: usize, b: u8) -> bool
     ensures { ByteAt b s.now at result }
 {
-    if s.len() <= at {
-        return false;
-    }
-    b == s[at]
+    s.get(at) == Some(&b)
 }
 
 // Where the digits end that stand at an offset.
 fn digits_end(s: &[u8], from: usize) -> usize
     ensures { result ≡ from + length (digits_at s.now from) }
 {
-    let mut at = from;
-    while at < s.len() {
-        if s[at] < b'0' {
+    for at in from..s.len() {
+        if !s[at].is_ascii_digit() {
             return at;
         }
-        if b'9' < s[at] {
-            return at;
-        }
-        at += 1;
     }
-    at
+    from.max(s.len())
 }
 
 // The number of one to seven digits.
@@ -127,8 +108,8 @@ fn number(s: &[u8], from: usize, end: usize) -> u64
     ensures { limit_in (digits_at s.now from) ≡ some result }
 {
     let mut value = 0;
-    for at in from..end {
-        value = value * 10 + (s[at] - b'0') as u64;
+    for &digit in &s[from..end] {
+        value = value * 10 + u64::from(digit - b'0');
     }
     value
 }

@@ -1,4 +1,5 @@
 -- Loading a term: at each head, what the calls ask and what they come to.
+use Rattle.std.specs.Prelude.{Some}
 use Prim.Native.Nat.{ℕ, ◌+◌, ◌-◌, ◌*◌, ◌≤◌, ◌<◌, max}
 use mathlib.Core.Path.{◌≡◌, ap}
 use mathlib.Core.List.{List}
@@ -10,8 +11,8 @@ use Rattle.calculus.proofs.Measures.{nodes_positive}
 use Rattle.calculus.proofs.Sizes.{size, size_positive}
 use Rattle.term.specs.Heads.{head_in}
 use Rattle.term.specs.Surveys.{Stands}
-use Rattle.term.specs.declared.Head.TheVariants.{Variable, Abstraction, Application, Nothing}
-use Rattle.term.proofs.Places.{is-variable, is-abstraction, is-application, is_something, size-within}
+use Rattle.term.specs.declared.Head.TheVariants.{Variable, Abstraction, Application}
+use Rattle.term.proofs.Places.{is-variable, is-abstraction, is-application, size-within}
 use Rattle.nodes.specs.Packing.{nodes_in, height_in}
 use Rattle.nodes.specs.Store.{Holds, Same, word}
 use Rattle.nodes.specs.Coded.{Loadable, Loads}
@@ -37,14 +38,14 @@ some-made asked loads = omega (arith, loads.made asked.term asked.stands, nodes_
 
 module _ {s : List ℕ} {at : ℕ} {room : List ℕ} {used : ℕ} where
   -- A VARIABLE
-  pub variable_asks : {i : ℕ} → head_in (drop at s) ≡ Variable i → Loadable s at room used
+  pub variable_asks : {i : ℕ} → head_in (drop at s) ≡ Some (Variable i) → Loadable s at room used
       → (2 * used + 2 ≤ length room) × (at + 9 ≤ length s)
   unfolding nodes size
   variable_asks h asked =
       let e = is-variable asked.term h asked.stands in
       (omega (arith, asked.fits, ap nodes e), omega (arith, size-within asked.stands, ap size e))
 
-  pub at_variable : {i next : ℕ} {after : List ℕ} → head_in (drop at s) ≡ Variable i → next ≡ used + 1
+  pub at_variable : {i next : ℕ} {after : List ℕ} → head_in (drop at s) ≡ Some (Variable i) → next ≡ used + 1
       → Same room after used → Holds after (var i) used
       → Loads s at room used (record { next = at + 9; used = next }) after
   unfolding nodes size
@@ -58,7 +59,7 @@ module _ {s : List ℕ} {at : ℕ} {room : List ℕ} {used : ℕ} where
       })
 
   -- AN ABSTRACTION
-  module _ (h : head_in (drop at s) ≡ Abstraction) (asked : Loadable s at room used) where
+  module _ (h : head_in (drop at s) ≡ Some Abstraction) (asked : Loadable s at room used) where
     pub body_asks : Loadable s (at + 1) room used
     unfolding nodes height
     body_asks =
@@ -103,7 +104,7 @@ module _ {s : List ℕ} {at : ℕ} {room : List ℕ} {used : ℕ} where
           })
 
   -- AN APPLICATION
-  module _ (h : head_in (drop at s) ≡ Application) (asked : Loadable s at room used) where
+  module _ (h : head_in (drop at s) ≡ Some Application) (asked : Loadable s at room used) where
     pub left_asks : Loadable s (at + 1) room used
     unfolding nodes height
     left_asks =
@@ -182,5 +183,3 @@ module _ {s : List ℕ} {at : ℕ} {room : List ℕ} {used : ℕ} where
             })
 
   -- NOTHING is never met where a term stands
-  pub at_nothing : {r : Loaded} → head_in (drop at s) ≡ Nothing → Loadable s at room used → Loads s at room used r room
-  at_nothing h asked = absurd (is_something asked.term h asked.stands)

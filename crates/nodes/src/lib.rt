@@ -191,7 +191,8 @@ pub fn load(s: &[u8], at: usize, room: &mut [u64], used: usize) -> Loaded
     requires { Loadable s.now at room.old used }
     ensures { Loads s.now at room.old used result room.new }
 {
-    match term::head_at(s, at) {
+    // a term stands here
+    match term::head_at(s, at).unwrap() {
         Head::Variable(index) => Loaded {
             next: at + 9,
             used: make_variable(room, used, index),
@@ -213,8 +214,6 @@ pub fn load(s: &[u8], at: usize, room: &mut [u64], used: usize) -> Loaded
                 used: make_application(room, top, left.used - 1, top - 1),
             }
         }
-        // not met: a term stands here
-        Head::Nothing => Loaded { next: at, used },
     }
 }
 
@@ -223,14 +222,7 @@ pub fn put_index(out: &mut [u8], at: usize, index: u64) -> usize
     requires { at + 8 ≤ length out.old }
     ensures { Puts out.old at (digits 7 index) result out.new }
 {
-    let mut left = index;
-    let mut place: usize = 0;
-    while place < 7 {
-        out[at + place] = (left % 256) as u8;
-        left = left / 256;
-        place += 1;
-    }
-    out[at + 7] = left as u8;
+    out[at..at + 8].copy_from_slice(&index.to_le_bytes());
     at + 8
 }
 
@@ -265,9 +257,5 @@ pub fn clear(room: &mut [u64], cap: usize)
     requires { (cap ≤ most_nodes) × (room_per_node * cap ≤ length room.old) }
     ensures { room.new ≡ cleared cap room.old }
 {
-    let mut at: usize = 0;
-    while at < ROOM_PER_NODE * cap {
-        room[at] = 0;
-        at += 1;
-    }
+    room[..ROOM_PER_NODE * cap].fill(0);
 }

@@ -11,10 +11,7 @@ use calculus::MOST_HEIGHT;
 fn byte_at(s: &[u8], at: usize) -> u8
     ensures { result ≡ get_or s.now at 0 }
 {
-    if s.len() <= at {
-        return 0;
-    }
-    s[at]
+    s.get(at).copied().unwrap_or(0)
 }
 
 // The variable at an offset, unless its bytes are cut short.

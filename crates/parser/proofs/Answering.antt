@@ -35,9 +35,9 @@ use Rattle.parser.specs.States.{State, reading, parsed_on, go, ended}
 use Rattle.parser.specs.Tokens.{words_on, Valid}
 use Rattle.parser.specs.Sequences.{Ready, Ends, Comes, to_its_end, to_a_refusal, Reads}
 use Rattle.parser.specs.Parsing.{Stores, Storable, Saves, Works}
-use Rattle.parser.specs.declared.building.Built.{Built}
 use Rattle.parser.specs.declared.sequences.Went.{Went}
-use Rattle.parser.specs.declared.sequences.Went.TheVariants.{On, Stopped}
+use Rattle.std.specs.Prelude.{Option, Result, Ok, Err}
+use Rattle.parser.specs.declared.tokens.Binder.{Binder}
 use Rattle.parser.specs.declared.Parsed.{Parsed}
 use Rattle.parser.specs.declared.Parsed.TheVariants.{Refused}
 
@@ -45,7 +45,7 @@ abbrev start : Cursor
 start = record { at = 0; chars = 0 }
 
 -- THE WHOLE TEXT is one sequence, with nothing open
-pub ready-first : {n : Notation} {s : List ℕ} {most : ℕ} {out store : List ℕ} (stack : List ℕ)
+pub ready-first : {n : Notation} {s : List ℕ} {most : ℕ} {out store : List ℕ} (stack : List (Option Binder))
     → length stack ≡ most_open
     → Lent most out store → Clean s → Valid n s 0 → Ready n s stack 0 store most start 0
 unfolding remains
@@ -70,13 +70,14 @@ refused-stores : {answer : Answer Term} (e : Refusal) (out : List ℕ) → answe
 unfolding parsed_told
 refused-stores e out is = rw is
 
-module _ {n : Notation} {s stack : List ℕ} {most : ℕ} {store : List ℕ} {r : Went} {stack' store' : List ℕ}
+module _ {n : Notation} {s : List ℕ} {stack : List (Option Binder)} {most : ℕ} {store : List ℕ}
+    {r : Result Went Refusal} {stack' : List (Option Binder)} {store' : List ℕ}
     (reads : Reads n s stack 0 store most start 0 r stack' store') where
   comes_to : Comes n s [] most start 0 store' r
   unfolding opens
   comes_to = reads.comes
 
-  pub works_stopped : (e : Refusal) (out : List ℕ) → r ≡ Stopped e
+  pub works_stopped : (e : Refusal) (out : List ℕ) → r ≡ Err e
       → Works (go [] (words_on n s 0) (reading none) [] then within most) out store (Refused e) out store'
   works_stopped e out is = record {
     stores = refused-stores e out
@@ -84,19 +85,19 @@ module _ {n : Notation} {s stack : List ℕ} {most : ℕ} {store : List ℕ} {r 
     as_long = reads.same.as_long;
   }
     where
-      stopped : Comes n s [] most start 0 store' (Stopped e)
+      stopped : Comes n s [] most start 0 store' (Err e)
           → (go [] (words_on n s 0) (reading none) [] then within most) ≡ refused (refusal_of e)
       stopped (to_a_refusal goes) = rw (goes false [])
 
-  module _ (read : Built) (here : Cursor) (closed : Bool) (is : r ≡ On read here closed) where
-    ends : Ends n s [] most start 0 store' read here closed
+  module _ (went : Went) (is : r ≡ Ok went) where
+    ends : Ends n s [] most start 0 store' went.read went.here went.closed
     ends = end_of (rw is at comes_to)
       where
-        end_of : Comes n s [] most start 0 store' (On read here closed)
-            → Ends n s [] most start 0 store' read here closed
+        end_of : Comes n s [] most start 0 store' (Ok went)
+            → Ends n s [] most start 0 store' went.read went.here went.closed
         end_of (to_its_end e) = e
 
-    pub storable : {out : List ℕ} → Lent most out store → Storable store' most read out
+    pub storable : {out : List ℕ} → Lent most out store → Storable store' most went.read out
     storable lent = record {
       lent = record {
         in_bounds = lent.in_bounds;
@@ -107,11 +108,11 @@ module _ {n : Notation} {s stack : List ℕ} {most : ℕ} {store : List ℕ} {r 
       means = ends.reaches.means;
     }
 
-    pub works_on : {out after : List ℕ} {p : Parsed} → Saves store' most read out p after
+    pub works_on : {out after : List ℕ} {p : Parsed} → Saves store' most went.read out p after
         → Works (go [] (words_on n s 0) (reading none) [] then within most) out store p after store'
     works_on saves =
         let whole : go [] (words_on n s 0) (reading none) [] ≡ parsed_on [] ends.state [] =
-        ends.goes false [] ∙ ends_there closed (words_on n s here.at) ends.state in
+        ends.goes false [] ∙ ends_there went.closed (words_on n s went.here.at) ends.state in
         record { stores = rw whole (saves.saves ends.state ends.reaches.means); as_long = reads.same.as_long }
 
 -- 3, 4 AND 5 PASS

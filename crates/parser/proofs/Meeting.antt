@@ -1,9 +1,10 @@
 -- The token at a place: how a name is looked up, and what the code's word says of the words ahead.
-use Prim.Native.Nat.{ℕ, zero, suc, ◌+◌, ◌-◌, ◌≤◌, ◌<◌}
+use Prim.Native.Nat.{ℕ, suc, ◌+◌, ◌-◌, ◌≤◌, ◌<◌}
 use mathlib.Core.Path.{◌≡◌, refl, sym, ap, ◌∙◌}
 use mathlib.Core.Bool.{true, false}
 use mathlib.Core.List.{List, [], ◌∷◌}
-use mathlib.Core.Option.{some}
+use Rattle.std.specs.Prelude.{Option, Some, None, Result, Ok, Err, take, reverse, ◌++◌}
+use Rattle.std.proofs.lemmas.List.{length-take-le, length-reverse, get_or-reverse, get_or-take, get_or_default, length-append}
 use native.Mathlib.Omega.{arith}
 use lib.ListN.{length, get_or}
 use Rattle.calculus.specs.Bounds.{most_text}
@@ -16,32 +17,32 @@ use Rattle.calculus.specs.Walk.{Open, resolved}
 use Rattle.words.specs.Places.{Clean, Placed, Inside, remains, name_of}
 use Rattle.words.specs.declared.Cursor.{Cursor}
 use Rattle.words.specs.declared.Name.{Name}
+use Rattle.parser.specs.declared.tokens.Binder.{Binder}
+use Rattle.term.specs.declared.Refusal.{Refusal}
+use Rattle.term.specs.declared.Refusal.TheVariants.{UndefinedFreeVariable}
+use Rattle.parser.specs.declared.tokens.Token.{Token}
 use Rattle.words.proofs.Remaining.{remains_end}
 use Rattle.words.specs.Ahead.{words_at}
 use Rattle.words.proofs.Ahead.{ahead-word, ahead_end, ahead-invalid}
-use Rattle.parser.specs.Opens.{packed, place_of, opens, found}
+use Rattle.parser.specs.Opens.{name_at, binder_of, opens, found}
 use Rattle.parser.specs.Tokens.{words_on, list_of, word_of, Valid, Onward}
-use Rattle.parser.specs.Tokens.{MetIndex, MetOpening, MetClosing, MetEnd, MetUndefined}
+use Rattle.parser.specs.Tokens.{MetIndex, MetOpening, MetClosing, MetEnd, MetRefused, Meets}
 use Rattle.parser.proofs.Going.{goes_number, goes-name, goes_undefined}
-use Rattle.parser.proofs.Openings.{past-group, is-binder, past-binder, place-packed, open-packed}
+use Rattle.parser.proofs.Openings.{past-group, is-binder, past-binder}
 
 -- LOOKING UP A NAME, with the last of what is open already passed
-pub record Looks (s stack x : List ℕ) (count left index : ℕ) : Type 0 where
+pub record Looks (s : List ℕ) (stack : List (Option Binder)) (x : List ℕ) (count left index : ℕ) : Type 0 where
   pub few : left ≤ count
   pub low : index + left ≤ count + 1
-  pub some_index : 0 < index
   pub looks : resolved x 1 (opens s stack count) ≡ resolved x index (opens s stack left)
 
-pub looks_first : (s stack x : List ℕ) (count : ℕ) → Looks s stack x count count 1
-looks_first s stack x count = record { few = omega arith; low = omega arith; some_index = omega arith; looks = refl }
+pub looks_first : (s : List ℕ) (stack : List (Option Binder)) (x : List ℕ) (count : ℕ) → Looks s stack x count count 1
+looks_first s stack x count = record { few = omega arith; low = omega arith; looks = refl }
 
-found_some : (i : ℕ) → 0 < i → found i ≡ some i
-found_some zero h = absurd (omega arith)
-found_some (suc i) h = refl
-
-module _ {s stack x : List ℕ} {count left index : ℕ} (so_far : Looks s stack x count left index) where
+module _ {s : List ℕ} {stack : List (Option Binder)} {x : List ℕ} {count left index : ℕ}
+    (so_far : Looks s stack x count left index) where
   -- nothing is left
-  pub looked_all : left ≤ 0 → found 0 ≡ resolved x 1 (opens s stack count)
+  pub looked_all : left ≤ 0 → found None ≡ resolved x 1 (opens s stack count)
   unfolding opens resolved
   looked_all none_left = let e : left ≡ 0 = omega arith in sym (so_far.looks ∙ rw e)
 
@@ -49,31 +50,54 @@ module _ {s stack x : List ℕ} {count left index : ℕ} (so_far : Looks s stack
     one_left : suc (left - 1) ≡ left
     one_left = omega arith
 
-    pub looks_past-group : get_or stack (left - 1) 0 ≡ 0 → Looks s stack x count (left - 1) index
+    pub looks_past-group : get_or stack (left - 1) None ≡ None → Looks s stack x count (left - 1) index
     looks_past-group e = record {
       few = omega (arith, so_far.few);
       low = omega (arith, so_far.low);
-      some_index = so_far.some_index;
       looks = so_far.looks ∙ rw one_left at (past-group s stack x index (left - 1) e);
     }
 
-    module _ (binds : get_or stack (left - 1) 0 ≡ 0 → ⊥) where
-      pub looks_past-binder : same_text x (name_of s (place_of (get_or stack (left - 1) 0))) ≡ false
-          → Looks s stack x count (left - 1) (index + 1)
+    module _ {y : Binder} (binds : get_or stack (left - 1) None ≡ Some y) where
+      pub looks_past-binder : same_text x (name_of s (name_at y)) ≡ false → Looks s stack x count (left - 1) (index + 1)
       looks_past-binder e =
           let next-index : suc index ≡ index + 1 = omega arith in
           record {
             few = omega (arith, so_far.few);
             low = omega (arith, so_far.low);
-            some_index = omega arith;
             looks = so_far.looks ∙ rw (one_left, next-index) at (past-binder s stack x index (left - 1) binds e);
           }
 
-      pub looked_up : same_text x (name_of s (place_of (get_or stack (left - 1) 0))) ≡ true
-          → found index ≡ resolved x 1 (opens s stack count)
-      looked_up e =
-          found_some index so_far.some_index
-          ∙ sym (so_far.looks ∙ rw one_left at (is-binder s stack x index (left - 1) binds e))
+      pub looked_up : same_text x (name_of s (name_at y)) ≡ true → found (Some index) ≡ resolved x 1 (opens s stack count)
+      looked_up e = sym (so_far.looks ∙ rw one_left at (is-binder s stack x index (left - 1) binds e))
+
+-- what an iterator from the end gives next
+pub given_next : {A : Type 0} (xs : List A) (count n : ℕ) (d x : A) → count ≤ length xs
+    → (n < length (reverse (take count xs))) × (x ≡ get_or (reverse (take count xs)) n x)
+    → (0 < count - n) × (get_or xs (count - n - 1) d ≡ x)
+given_next {A} xs count n d x few (inside, is) =
+    let long = length-take-le count xs few in
+    let below : n < count = omega (arith, inside, length-reverse (take count xs), long) in
+    let at : length (take count xs) - 1 - n ≡ count - n - 1 = omega (arith, long) in (
+      omega arith,
+      get_or_default xs (count - n - 1) d x (omega arith)
+          ∙ sym (is ∙ get_or-reverse (take count xs) n x (omega arith)
+          ∙ ap (λ k. get_or (take count xs) k x) at
+          ∙ get_or-take count xs (count - n - 1) x (omega arith)),
+    )
+
+-- one was given, so one fewer is left
+pub one_fewer : (count : ℕ) {A : Type 0} (given_so : List A) (x : A) {s : List ℕ} {stack : List (Option Binder)}
+    {y : List ℕ} {all index : ℕ} → Looks s stack y all (count - length given_so - 1) index
+    → Looks s stack y all (count - length (given_so ++ x ∷ [])) index
+one_fewer count given_so x looks =
+    let e : count - length (given_so ++ x ∷ []) ≡ count - length given_so - 1 =
+    omega (arith, length-append given_so (x ∷ [])) in rw e looks
+
+-- all were given
+pub none_left : {A B : Type 0} (xs : List A) (count : ℕ) (given_so : List B)
+    → length given_so ≡ length (reverse (take count xs)) → count ≤ length xs → count - length given_so ≤ 0
+none_left xs count given_so all few =
+    omega (arith, all, length-reverse (take count xs), length-take-le count xs few)
 
 -- THE WORDS AHEAD of a place whose words are valid
 after-word : {w : Word} (here after : Answer (List Word)) → here ≡ (after then (λ ws. given (w ∷ ws)))
@@ -133,45 +157,42 @@ module _ {n : Notation} {s : List ℕ} {os : List Open} {here after : Cursor} (v
         (goes_number os (words_on n s after.at) st ps i);
   }
 
-  module _ (x : List ℕ) (i : ℕ) (looked : found i ≡ resolved x 1 os)
+  module _ (x : List ℕ) {r : Option ℕ} (looked : found r ≡ resolved x 1 os)
       (e : next n (remains s here.at) ≡ word (name x) (remains s after.at)) where
-    pub meets-name : (i ≡ 0 → ⊥) → here.at + 1 ≤ after.at → MetIndex n s os here i after
-    meets-name some_index moved = record {
+    pub meets-name : {i : ℕ} → r ≡ Some i → here.at + 1 ≤ after.at → MetIndex n s os here i after
+    meets-name {i} is moved = record {
       step = step_to valid placed forward (name x) e;
       moved = omega arith;
       goes = λ st ps. rw (words-after valid after.at (name x) e)
-          (goes-name os (words_on n s after.at) st ps x i (sym looked ∙ found_some i (omega arith)));
+          (goes-name os (words_on n s after.at) st ps x i (sym looked ∙ ap found is));
     }
 
-    pub meets_undefined : i ≡ 0 → MetUndefined n s os here
-    meets_undefined none_so = record {
+    pub meets_undefined : r ≡ None → MetRefused n s os here UndefinedFreeVariable
+    meets_undefined is = record {
       goes = λ st ps. rw (words-after valid after.at (name x) e)
-          (goes_undefined os (words_on n s after.at) st ps x (sym looked ∙ ap found none_so));
+          (goes_undefined os (words_on n s after.at) st ps x (sym looked ∙ ap found is));
     }
 
   pub meets-left : here.at + 1 ≤ after.at → next n (remains s here.at) ≡ word opening (remains s after.at)
-      → MetOpening n s os here 0 after
+      → MetOpening n s os here None after
   unfolding word_of
   meets-left moved e = record {
     step = step_to valid placed forward opening e;
     moved = omega arith;
-    inside = record { forward = omega arith; within = omega arith };
+    inside = tt;
     ahead = words-after valid after.at opening e;
   }
 
-  pub meets-binder : (x : Name) → here.at + 1 ≤ after.at → Clean s → (0 < x.from) × Inside s x → {w : ℕ}
-      → w ≡ packed x
+  pub meets-binder : (x : Name) → here.at + 1 ≤ after.at → Inside s x
       → next n (remains s here.at) ≡ word (binder (name_of s x)) (remains s after.at)
-      → MetOpening n s os here w after
+      → MetOpening n s os here (Some (binder_of x)) after
   unfolding word_of
-  meets-binder x moved clean (some_before, inside) is e =
-      let low : x.from ≤ most_text = omega (arith, inside.forward, inside.within, clean.short) in
-      record {
-        step = step_to valid placed forward (binder (name_of s x)) e;
-        moved = omega arith;
-        inside = rw (is, place-packed x low) inside;
-        ahead = words-after valid after.at (binder (name_of s x)) e ∙ rw (is, open-packed s x some_before low);
-      }
+  meets-binder x moved inside e = record {
+    step = step_to valid placed forward (binder (name_of s x)) e;
+    moved = omega arith;
+    inside = inside;
+    ahead = words-after valid after.at (binder (name_of s x)) e;
+  }
 
   pub meets-right : next n (remains s here.at) ≡ word closing (remains s after.at) → MetClosing n s os here after
   meets-right e =
@@ -186,7 +207,16 @@ module _ {n : Notation} {s : List ℕ} {os : List Open} {here after : Cursor} (v
         last = words-ended n s after.at there;
       }
 
--- a binder's place fits one number
+-- what was met, once its token is known
+pub met-as : (n : Notation) (s : List ℕ) (os : List Open) (here : Cursor) {r : Result (Token × Cursor) Refusal}
+    {k l : Token} {next : Cursor} → Meets n s os here r → r ≡ Ok (k, next) → k ≡ l → Meets n s os here (Ok (l, next))
+met-as n s os here met was is = rw (was, is) at met
+
+pub met-refused : (n : Notation) (s : List ℕ) (os : List Open) (here : Cursor) {r : Result (Token × Cursor) Refusal}
+    {why : Refusal} → Meets n s os here r → r ≡ Err why → MetRefused n s os here why
+met-refused n s os here met was = rw was at met
+
+-- a binder's place fits
 pub place-fits : {s : List ℕ} {x : Name} → Clean s → (0 < x.from) × Inside s x
     → (x.from ≤ most_text) × (x.to ≤ most_text)
 place-fits clean (some_before, inside) =

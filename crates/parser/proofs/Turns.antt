@@ -7,24 +7,25 @@ use mathlib.Core.Option.{none, some}
 use native.Mathlib.Omega.{arith}
 use Rattle.calculus.specs.Term.{var}
 use Rattle.calculus.specs.Bounds.{most_text}
-use Rattle.calculus.specs.Refusal as calculus
 use Rattle.calculus.specs.Refusal.{refused}
+use Rattle.std.specs.Prelude.{Option, Result, Ok, Err}
+use Rattle.term.specs.Answers.{refusal_of}
 use Rattle.calculus.specs.Reading.{Notation}
 use Rattle.calculus.specs.Words.{Word}
 use Rattle.calculus.specs.Grammar.{Waits}
-use Rattle.term.specs.declared.Refusal.TheVariants.{UndefinedFreeVariable}
+use Rattle.term.specs.declared.Refusal.{Refusal}
 use Rattle.words.specs.declared.Cursor.{Cursor}
+use Rattle.parser.specs.declared.tokens.Binder.{Binder}
 use Rattle.nodes.specs.Store.{Same}
 use Rattle.nodes.proofs.Keeping.{same_refl, same_then}
 use Rattle.parser.specs.Opens.{opens, Opened, Kept}
 use Rattle.parser.specs.States.{State, reading, void, beside, go, unless_void, ended}
-use Rattle.parser.specs.Tokens.{words_on, Onward, MetIndex, MetClosing, MetEnd, MetUndefined}
+use Rattle.parser.specs.Tokens.{words_on, Onward, MetIndex, MetClosing, MetEnd, MetRefused}
 use Rattle.parser.specs.Building.{Means, nothing, Roomy, Enclosable, Extends}
 use Rattle.parser.specs.Sequences.{Ready, Reaches, from_here, Comes, to_its_end, to_a_refusal, Reads}
 use Rattle.parser.specs.declared.building.Built.{Built}
 use Rattle.parser.specs.declared.building.Part.TheVariants as part
 use Rattle.parser.specs.declared.sequences.Went.{Went}
-use Rattle.parser.specs.declared.sequences.Went.TheVariants.{On, Stopped}
 use Rattle.parser.proofs.Openings.{kept_refl, kept_then, opens_kept, opened-kept}
 use Rattle.parser.proofs.Meaning.{means-grows}
 
@@ -36,9 +37,9 @@ beside-void true st (reading none) = refl
 beside-void true st (reading (some t)) = refl
 beside-void true st void = refl
 
-module _ (n : Notation) (s stack : List ℕ) (count : ℕ) (store : List ℕ) (most : ℕ) (from : Cursor) (base : ℕ) where
+module _ (n : Notation) (s : List ℕ) (stack : List (Option Binder)) (count : ℕ) (store : List ℕ) (most : ℕ) (from : Cursor) (base : ℕ) where
   -- what a sequence has read up to a place
-  pub record SoFar (stack' store' : List ℕ) (here : Cursor) (read : Built) : Type 0 where
+  pub record SoFar (stack' : List (Option Binder)) (store' : List ℕ) (here : Cursor) (read : Built) : Type 0 where
     pub state : State
     pub reaches : Reaches n s most from base here store' read state
     pub kept : Kept stack stack' count
@@ -61,14 +62,14 @@ module _ (n : Notation) (s stack : List ℕ) (count : ℕ) (store : List ℕ) (m
     goes = λ failed ps. refl;
   }
 
-module _ {n : Notation} {s stack : List ℕ} {count : ℕ} {store : List ℕ} {most : ℕ} {from : Cursor} {base : ℕ}
-    {stack' store' : List ℕ} {here : Cursor} {read : Built}
+module _ {n : Notation} {s : List ℕ} {stack : List (Option Binder)} {count : ℕ} {store : List ℕ} {most : ℕ}
+    {from : Cursor} {base : ℕ} {stack' : List (Option Binder)} {store' : List ℕ} {here : Cursor} {read : Built}
     (so_far : SoFar n s stack count store most from base stack' store' here read) where
   pub same-open : opens s stack' count ≡ opens s stack count
   same-open = opens_kept s count so_far.kept
 
   -- an item was read
-  pub one_item : {stack'' store'' : List ℕ} {after : Cursor} (more : Built) (inner : State) → Onward n s here after
+  pub one_item : {stack'' : List (Option Binder)} {store'' : List ℕ} {after : Cursor} (more : Built) (inner : State) → Onward n s here after
       → more.used + 2 * here.at ≤ read.used + 2 * after.at → Kept stack' stack'' count
       → Same store' store'' read.used
       → Means store'' most base more.used more.part (beside so_far.state inner)
@@ -104,7 +105,7 @@ module _ {n : Notation} {s stack : List ℕ} {count : ℕ} {store : List ℕ} {m
       (rw same-open at met.goes)
 
   -- what was open, and the nodes made before, stay
-  reads_so : {r : Went} → Comes n s (opens s stack count) most from base store' r
+  reads_so : {r : Result Went Refusal} → Comes n s (opens s stack count) most from base store' r
       → Reads n s stack count store most from base r stack' store'
   reads_so comes = record { comes = comes; kept = so_far.kept; same = so_far.same }
 
@@ -112,9 +113,9 @@ module _ {n : Notation} {s stack : List ℕ} {count : ℕ} {store : List ℕ} {m
   at_its_end : {after : Cursor} (closed : Bool) → Onward n s here after
       → (closed ≡ false → words_on n s after.at ≡ [])
       → words_on n s here.at ≡ ended closed (words_on n s after.at)
-      → Comes n s (opens s stack count) most from base store' (On read after closed)
-  at_its_end closed step last ahead =
-      to_its_end {read = read} (record {
+      → Comes n s (opens s stack count) most from base store' (Ok (record { read = read; here = after; closed = closed }))
+  at_its_end {after} closed step last ahead =
+      to_its_end {went = record { read = read; here = after; closed = closed }} (record {
         state = so_far.state;
         reaches = record {
           step = record {
@@ -130,26 +131,27 @@ module _ {n : Notation} {s stack : List ℕ} {count : ℕ} {store : List ℕ} {m
             ∙ ap (λ (ws : List Word). go (opens s stack count) ws (unless_void failed so_far.state) ps) ahead;
       })
 
-  module _ {r : Went} {after : Cursor} where
-    pub closed-here : MetClosing n s (opens s stack' count) here after → r ≡ On read after true
-        → Reads n s stack count store most from base r stack' store'
-    closed-here met is = rw is (reads_so (at_its_end true met.step (λ e. absurd (true≢false e)) met.ahead))
+  module _ {after : Cursor} where
+    pub closed-here : MetClosing n s (opens s stack' count) here after
+        → Reads n s stack count store most from base (Ok (record { read = read; here = after; closed = true })) stack'
+        store'
+    closed-here met = reads_so (at_its_end true met.step (λ e. absurd (true≢false e)) met.ahead)
 
-    pub ended_here : MetEnd n s (opens s stack' count) here after → r ≡ On read after false
-        → Reads n s stack count store most from base r stack' store'
-    ended_here met is = rw is (reads_so (at_its_end false met.step (λ e. met.last) met.ahead))
+    pub ended_here : MetEnd n s (opens s stack' count) here after
+        → Reads n s stack count store most from base (Ok (record { read = read; here = after; closed = false })) stack'
+        store'
+    ended_here met = reads_so (at_its_end false met.step (λ e. met.last) met.ahead)
 
   -- A REFUSAL at the token
-  pub stops : (e : calculus.Refusal)
-      → ((st : State) (ps : List Waits) → go (opens s stack count) (words_on n s here.at) st ps ≡ refused e)
+  pub stops : (e : Refusal)
+      → ((st : State) (ps : List Waits) → go (opens s stack count) (words_on n s here.at) st ps ≡ refused (refusal_of e))
       → (failed : Bool) (ps : List Waits)
-      → go (opens s stack count) (words_on n s from.at) (unless_void failed (reading none)) ps ≡ refused e
+      → go (opens s stack count) (words_on n s from.at) (unless_void failed (reading none)) ps ≡ refused (refusal_of e)
   stops e goes failed ps = so_far.goes failed ps ∙ goes (unless_void failed so_far.state) ps
 
-  pub undefined_here : MetUndefined n s (opens s stack' count) here
-      → Reads n s stack count store most from base (Stopped UndefinedFreeVariable) stack' store'
-  undefined_here met =
-      reads_so (to_a_refusal (stops calculus.undefined_free_variable (rw same-open at met.goes)))
+  pub refused_here : {why : Refusal} → MetRefused n s (opens s stack' count) here why
+      → Reads n s stack count store most from base (Err why) stack' store'
+  refused_here {why} met = reads_so (to_a_refusal (stops why (rw same-open at met.goes)))
 
   -- WHAT OPENS asks what its sequence asked
   module _ (ready : Ready n s stack count store most from base) where

@@ -1,39 +1,44 @@
--- What is open at a word, as an array of numbers tells it.
-use Rattle.std.specs.Prelude.{ℕ, zero, suc, ◌+◌, ◌*◌, ◌/◌, ◌%◌, ◌≤◌, ◌<◌, ◌≡◌, cond, List, [], ◌∷◌, eqb, length, get_or}
-use Rattle.std.proofs.Math.Option.{Option, none, some}
+-- What is open at a word, as an array tells it: a group, or a binder by the place of its name.
+use Rattle.std.specs.Prelude.{ℕ, zero, suc, ◌≤◌, ◌<◌, ◌≡◌, List, [], ◌∷◌, length, get_or, Option, Some, None, ⊤}
+use Rattle.std.proofs.Math.Option as maybe
 use Rattle.calculus.specs.Bounds.{most_open}
 use Rattle.calculus.specs.Walk.{Open, group, bound}
 use Rattle.words.specs.Places.{name_of, Inside}
 use Rattle.words.specs.declared.Name.{Name}
+use Rattle.parser.specs.declared.tokens.Binder.{Binder}
 
--- the place of a name in one number
-abbrev pub packed : Name → ℕ
-packed x = x.from + 4294967296 * x.to
+abbrev pub name_at : Binder → Name
+name_at x = record { from = x.from; to = x.to }
 
-abbrev pub place_of : ℕ → Name
-place_of w = record { from = w % 4294967296; to = w / 4294967296 }
+abbrev pub binder_of : Name → Binder
+binder_of x = record { from = x.from; to = x.to }
 
--- 0 is a group; no binder's name begins with the text
-abbrev pub open_of : List ℕ → ℕ → Open
-open_of s w = cond (eqb w 0) group (bound (name_of s (place_of w)))
+abbrev pub open_of : List ℕ → Option Binder → Open
+open_of s None = group
+open_of s (Some x) = bound (name_of s (name_at x))
 
 -- the first so many, the last of them innermost
-unfoldable pub opens : (s stack : List ℕ) → ℕ → List Open
+unfoldable pub opens : (s : List ℕ) (stack : List (Option Binder)) → ℕ → List Open
 opens s stack zero = []
-opens s stack (suc k) = open_of s (get_or stack k 0) ∷ opens s stack k
+opens s stack (suc k) = open_of s (get_or stack k None) ∷ opens s stack k
+
+-- a binder's name is in the text
+abbrev pub Held : List ℕ → Option Binder → Type 0
+Held s None = ⊤
+Held s (Some x) = Inside s (name_at x)
 
 -- the array has a place for all that may be open, and what is open is in the text
-pub record Opened (s stack : List ℕ) (count : ℕ) : Type 0 where
+pub record Opened (s : List ℕ) (stack : List (Option Binder)) (count : ℕ) : Type 0 where
   pub as_long : length stack ≡ most_open
   pub few : count ≤ most_open
-  pub inside : (k : ℕ) → k < count → Inside s (place_of (get_or stack k 0))
+  pub inside : (k : ℕ) → k < count → Held s (get_or stack k None)
 
--- the first so many numbers of an array stay
-pub record Kept (xs ys : List ℕ) (count : ℕ) : Type 0 where
+-- the first so many of an array stay
+pub record Kept (xs ys : List (Option Binder)) (count : ℕ) : Type 0 where
   pub as_long : length ys ≡ length xs
-  pub kept : (k : ℕ) → k < count → get_or ys k 0 ≡ get_or xs k 0
+  pub kept : (k : ℕ) → k < count → get_or ys k None ≡ get_or xs k None
 
--- an index is never 0
-abbrev pub found : ℕ → Option ℕ
-found zero = none
-found (suc i) = some (suc i)
+-- what a search told, as a definition says it
+abbrev pub found : Option ℕ → maybe.Option ℕ
+found None = maybe.none
+found (Some i) = maybe.some i

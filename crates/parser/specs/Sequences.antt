@@ -1,5 +1,5 @@
 -- What reading a sequence, and a group, asks and gives.
-use Rattle.std.specs.Prelude.{ℕ, ◌+◌, ◌*◌, ◌≤◌, ◌<◌, ◌≡◌, Bool, false, List, [], ◌∷◌}
+use Rattle.std.specs.Prelude.{ℕ, ◌+◌, ◌*◌, ◌≤◌, ◌<◌, ◌≡◌, Bool, false, List, [], ◌∷◌, Option, Result, Ok, Err}
 use Rattle.std.proofs.Math.Option.{none}
 use Rattle.calculus.specs.Bounds.{most_open}
 use Rattle.calculus.specs.Refusal.{Answer, refused}
@@ -13,6 +13,7 @@ use Rattle.term.specs.declared.Refusal.{Refusal}
 use Rattle.term.specs.declared.Refusal.TheVariants.{TooHigh}
 use Rattle.words.specs.Places.{Clean, Placed}
 use Rattle.words.specs.declared.Cursor.{Cursor}
+use Rattle.parser.specs.declared.tokens.Binder.{Binder}
 use Rattle.nodes.specs.Store.{Same}
 use Rattle.parser.specs.Opens.{open_of, opens, Opened, Kept}
 use Rattle.parser.specs.States.{State, reading, go, unless_void, ended}
@@ -20,10 +21,9 @@ use Rattle.parser.specs.Tokens.{words_on, Valid, Onward}
 use Rattle.parser.specs.Building.{Means, Roomy}
 use Rattle.parser.specs.declared.building.Built.{Built}
 use Rattle.parser.specs.declared.sequences.Went.{Went}
-use Rattle.parser.specs.declared.sequences.Went.TheVariants.{On, Stopped}
 
 -- a place in a text, what is open there, and the store
-pub record Ready (n : Notation) (s stack : List ℕ) (count : ℕ) (store : List ℕ) (cap : ℕ) (from : Cursor) (base : ℕ) :
+pub record Ready (n : Notation) (s : List ℕ) (stack : List (Option Binder)) (count : ℕ) (store : List ℕ) (cap : ℕ) (from : Cursor) (base : ℕ) :
     Type 0 where
   pub clean : Clean s
   pub placed : Placed s from
@@ -54,30 +54,30 @@ pub record Ends (n : Notation) (s : List ℕ) (os : List Open) (cap : ℕ) (from
 
 -- or to a word that is refused, whatever comes after
 pub data Comes (n : Notation) (s : List ℕ) (os : List Open) (cap : ℕ) (from : Cursor) (base : ℕ) (store : List ℕ) :
-    Went → Type 0 where
-  to_its_end : {read : Built} {here : Cursor} {closed : Bool} → Ends n s os cap from base store read here closed
-      → Comes n s os cap from base store (On read here closed)
+    Result Went Refusal → Type 0 where
+  to_its_end : {went : Went} → Ends n s os cap from base store went.read went.here went.closed
+      → Comes n s os cap from base store (Ok went)
   to_a_refusal : {e : Refusal}
       → ((failed : Bool) (ps : List Waits) → from_here os (words_on n s from.at) failed (reading none) ps
       ≡ refused (refusal_of e))
-      → Comes n s os cap from base store (Stopped e)
+      → Comes n s os cap from base store (Err e)
 
 -- what was open, and the nodes made before, stay
-pub record Reads (n : Notation) (s stack : List ℕ) (count : ℕ) (store : List ℕ) (cap : ℕ) (from : Cursor) (base : ℕ)
-    (r : Went) (stack' store' : List ℕ) : Type 0 where
+pub record Reads (n : Notation) (s : List ℕ) (stack : List (Option Binder)) (count : ℕ) (store : List ℕ) (cap : ℕ) (from : Cursor) (base : ℕ)
+    (r : Result Went Refusal) (stack' : List (Option Binder)) (store' : List ℕ) : Type 0 where
   pub comes : Comes n s (opens s stack count) cap from base store' r
   pub kept : Kept stack stack' count
   pub same : Same store store' base
 
 -- with one more open, or 7
-pub data Enters (n : Notation) (s : List ℕ) (os : List Open) (count opening cap : ℕ) (from : Cursor) (base : ℕ)
-    (store : List ℕ) : Went → Type 0 where
-  no_more : most_open ≤ count → Enters n s os count opening cap from base store (Stopped TooHigh)
-  one_more : {r : Went} → count < most_open → Comes n s (open_of s opening ∷ os) cap from base store r
+pub data Enters (n : Notation) (s : List ℕ) (os : List Open) (count : ℕ) (opening : Option Binder) (cap : ℕ)
+    (from : Cursor) (base : ℕ) (store : List ℕ) : Result Went Refusal → Type 0 where
+  no_more : most_open ≤ count → Enters n s os count opening cap from base store (Err TooHigh)
+  one_more : {r : Result Went Refusal} → count < most_open → Comes n s (open_of s opening ∷ os) cap from base store r
       → Enters n s os count opening cap from base store r
 
-pub record Groups (n : Notation) (s stack : List ℕ) (count opening : ℕ) (store : List ℕ) (cap : ℕ) (from : Cursor)
-    (base : ℕ) (r : Went) (stack' store' : List ℕ) : Type 0 where
+pub record Groups (n : Notation) (s : List ℕ) (stack : List (Option Binder)) (count : ℕ) (opening : Option Binder)
+    (store : List ℕ) (cap : ℕ) (from : Cursor) (base : ℕ) (r : Result Went Refusal) (stack' : List (Option Binder)) (store' : List ℕ) : Type 0 where
   pub enters : Enters n s (opens s stack count) count opening cap from base store' r
   pub kept : Kept stack stack' count
   pub same : Same store store' base

@@ -1,16 +1,19 @@
 -- The words ahead of a place, and what the code's token says of them.
-use Rattle.std.specs.Prelude.{ℕ, ◌≤◌, ◌<◌, ◌≡◌, List, [], ◌∷◌}
+use Rattle.std.specs.Prelude.{ℕ, ◌≤◌, ◌<◌, ◌≡◌, List, [], ◌∷◌, Option, Result, Ok, Err}
 use Rattle.std.proofs.Math.Option.{some}
 use Rattle.calculus.specs.Term.{var}
-use Rattle.calculus.specs.Refusal.{Answer, given, refused, undefined_free_variable}
+use Rattle.calculus.specs.Refusal.{Answer, given, refused}
 use Rattle.calculus.specs.Reading.{Notation}
 use Rattle.calculus.specs.Words.{Word, opening, closing, binder}
 use Rattle.calculus.specs.Walk.{Open, group, bound}
 use Rattle.calculus.specs.Grammar.{Waits}
-use Rattle.words.specs.Places.{Placed, Inside}
+use Rattle.term.specs.Answers.{refusal_of}
+use Rattle.term.specs.declared.Refusal.{Refusal}
+use Rattle.words.specs.Places.{Placed}
+use Rattle.parser.specs.declared.tokens.Binder.{Binder}
 use Rattle.words.specs.declared.Cursor.{Cursor}
 use Rattle.words.specs.Ahead.{words_at}
-use Rattle.parser.specs.Opens.{place_of, open_of}
+use Rattle.parser.specs.Opens.{open_of, Held}
 use Rattle.parser.specs.States.{State, reading, beside, go}
 use Rattle.parser.specs.declared.tokens.Token.{Token}
 use Rattle.parser.specs.declared.tokens.Token.TheVariants as token
@@ -46,10 +49,10 @@ module _ (n : Notation) (s : List ℕ) (os : List Open) (here : Cursor) where
     pub goes : (st : State) (ps : List Waits) → go os (words_on n s here.at) st ps
         ≡ go os (words_on n s next.at) (beside st (reading (some (var i)))) ps
 
-  pub record MetOpening (w : ℕ) (next : Cursor) : Type 0 where
+  pub record MetOpening (w : Option Binder) (next : Cursor) : Type 0 where
     pub step : Onward n s here next
     pub moved : here.at < next.at
-    pub inside : Inside s (place_of w)
+    pub inside : Held s w
     pub ahead : words_on n s here.at ≡ word_of (open_of s w) ∷ words_on n s next.at
 
   pub record MetClosing (next : Cursor) : Type 0 where
@@ -61,12 +64,12 @@ module _ (n : Notation) (s : List ℕ) (os : List Open) (here : Cursor) where
     pub ahead : words_on n s here.at ≡ []
     pub last : words_on n s next.at ≡ []
 
-  pub record MetUndefined : Type 0 where
-    pub goes : (st : State) (ps : List Waits) → go os (words_on n s here.at) st ps ≡ refused undefined_free_variable
+  pub record MetRefused (why : Refusal) : Type 0 where
+    pub goes : (st : State) (ps : List Waits) → go os (words_on n s here.at) st ps ≡ refused (refusal_of why)
 
-  abbrev pub Meets : Token → Type 0
-  Meets (token.Index i next) = MetIndex i next
-  Meets (token.Opening w next) = MetOpening w next
-  Meets (token.Closing next) = MetClosing next
-  Meets (token.End next) = MetEnd next
-  Meets token.Undefined = MetUndefined
+  abbrev pub Meets : Result (Token × Cursor) Refusal → Type 0
+  Meets (Ok (token.Index i, next)) = MetIndex i next
+  Meets (Ok (token.Open w, next)) = MetOpening w next
+  Meets (Ok (token.Close, next)) = MetClosing next
+  Meets (Ok (token.End, next)) = MetEnd next
+  Meets (Err why) = MetRefused why

@@ -22,7 +22,7 @@ ghost use Rattle.parser.specs.Parsing.{Storable, Saves, Works};
 use building::{Built, Part};
 use calculus::{MOST_HEIGHT, MOST_OPEN, ROOM_PER_NODE};
 use nodes::lending::{Granted, grant};
-use sequences::{Went, sequence};
+use sequences::sequence;
 use term::{Notation, Refusal};
 use words::{Cursor, Judged};
 
@@ -61,15 +61,11 @@ fn build(notation: Notation, cap: usize, text: &[u8], out: &mut [u8], store: &mu
     ensures { Works (go [] (words_on (notation_of notation) text.now 0) (reading none) []
         then within cap) out.old store.old result out.new store.new }
 {
-    let mut stack = [0u64; MOST_OPEN];
+    let mut stack = [None; MOST_OPEN];
     let start = Cursor { at: 0, chars: 0 };
     match sequence(text, notation, &mut stack, 0, store, cap, start, 0) {
-        Went::Stopped(why) => Parsed::Refused(why),
-        Went::On {
-            read,
-            here: _,
-            closed: _,
-        } => save(store, cap, read, out),
+        Err(why) => Parsed::Refused(why),
+        Ok(went) => save(store, cap, went.read, out),
     }
 }
 

@@ -1,33 +1,20 @@
 // A sequence holds groups and a group holds a sequence: one pass over the tokens, which walks and builds.
-ghost use Rattle.std.specs.Prelude.{◌≡◌};
 ghost use Rattle.term.specs.Notations.{notation_of};
-ghost use Rattle.words.specs.Places.{Inside};
-ghost use Rattle.parser.specs.Opens.{place_of};
+ghost use Rattle.parser.specs.Opens.{Held};
 ghost use Rattle.parser.specs.Sequences.{Ready, Reads, Groups};
-ghost use Rattle.parser.specs.declared.sequences.Went.TheVariants.{On};
 
 use crate::building::{Built, Part, joined, with_abstraction, with_variable};
-use crate::tokens::{Token, token_at};
+use crate::tokens::{Binder, Token, token_at};
 use calculus::MOST_OPEN;
 use term::{Notation, Refusal};
 use words::Cursor;
 
-// What was read up to a place, and whether a `)` closed it there; or why a token is refused.
+// What was read up to a place, and whether a `)` closed it there.
 #[derive(Clone, Copy)]
-pub(crate) enum Went {
-    On {
-        read: Built,
-        here: Cursor,
-        closed: bool,
-    },
-    Stopped(Refusal),
-}
-
-// Where a sequence came to.
-fn came(read: Built, here: Cursor, closed: bool) -> Went
-    ensures { result ≡ On read here closed }
-{
-    Went::On { read, here, closed }
+pub(crate) struct Went {
+    pub(crate) read: Built,
+    pub(crate) here: Cursor,
+    pub(crate) closed: bool,
 }
 
 // The items up to a `)`, which is passed, or the end. The body of an abstraction is the rest of its sequence.
@@ -35,13 +22,13 @@ fn came(read: Built, here: Cursor, closed: bool) -> Went
 pub(crate) fn sequence(
     text: &[u8],
     notation: Notation,
-    stack: &mut [u64],
+    stack: &mut [Option<Binder>],
     count: usize,
     store: &mut [u64],
     cap: usize,
     from: Cursor,
     base: usize,
-) -> Went
+) -> Result<Went, Refusal>
     requires { Ready (notation_of notation) text.now stack.old count store.old cap from base }
     ensures { Reads (notation_of notation) text.now stack.old count
         store.old cap from base result stack.new store.new }
@@ -52,31 +39,40 @@ pub(crate) fn sequence(
         used: base,
     };
     loop {
-        match token_at(text, notation, stack, count, here) {
-            Token::Index(index, next) => {
+        let (token, next) = token_at(text, notation, stack, count, here)?;
+        match token {
+            Token::Index(index) => {
                 read = with_variable(store, cap, read, index);
                 here = next;
             }
-            Token::Opening(w, next) => {
-                let went = group(text, notation, stack, count, w, store, cap, next, read.used);
-                match went {
-                    Went::Stopped(why) => return Went::Stopped(why),
-                    Went::On {
-                        read: inner,
-                        here: after,
-                        closed,
-                    } => {
-                        if w != 0 {
-                            return came(with_abstraction(store, cap, read, inner), after, closed);
-                        }
-                        read = joined(store, cap, read, inner);
-                        here = after;
-                    }
+            Token::Open(opening) => {
+                let went = group(
+                    text, notation, stack, count, opening, store, cap, next, read.used,
+                )?;
+                if let Some(_) = opening {
+                    return Ok(Went {
+                        read: with_abstraction(store, cap, read, went.read),
+                        here: went.here,
+                        closed: went.closed,
+                    });
                 }
+                read = joined(store, cap, read, went.read);
+                here = went.here;
             }
-            Token::Closing(next) => return came(read, next, true),
-            Token::End(next) => return came(read, next, false),
-            Token::Undefined => return Went::Stopped(Refusal::UndefinedFreeVariable),
+            Token::Close => {
+                return Ok(Went {
+                    read,
+                    here: next,
+                    closed: true,
+                });
+            }
+            Token::End => {
+                return Ok(Went {
+                    read,
+                    here: next,
+                    closed: false,
+                });
+            }
         }
     }
 }
@@ -87,21 +83,21 @@ pub(crate) fn sequence(
 fn group(
     text: &[u8],
     notation: Notation,
-    stack: &mut [u64],
+    stack: &mut [Option<Binder>],
     count: usize,
-    opening: u64,
+    opening: Option<Binder>,
     store: &mut [u64],
     cap: usize,
     from: Cursor,
     base: usize,
-) -> Went
+) -> Result<Went, Refusal>
     requires { Ready (notation_of notation) text.now stack.old count store.old cap from base
-        × Inside text.now (place_of opening) }
+        × Held text.now opening }
     ensures { Groups (notation_of notation) text.now stack.old count opening
         store.old cap from base result stack.new store.new }
 {
     if MOST_OPEN <= count {
-        return Went::Stopped(Refusal::TooHigh);
+        return Err(Refusal::TooHigh);
     }
     stack[count] = opening;
     sequence(text, notation, stack, count + 1, store, cap, from, base)

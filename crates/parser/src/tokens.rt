@@ -4,70 +4,75 @@ ghost use Rattle.calculus.specs.Bounds.{most_text};
 ghost use Rattle.calculus.specs.Walk.{resolved};
 ghost use Rattle.term.specs.Notations.{notation_of};
 ghost use Rattle.words.specs.Places.{Clean, Placed, Inside, name_of};
-ghost use Rattle.parser.specs.Opens.{packed, place_of, opens, Opened, found};
+ghost use Rattle.parser.specs.Opens.{opens, Opened, found, binder_of, name_at};
 ghost use Rattle.parser.specs.Tokens.{Valid, Meets};
 
-use term::Notation;
+use term::{Notation, Refusal};
 use words::{Cursor, Name, Word, same_name};
 
-// How much the end of a name stands for.
-const END: u64 = 4294967296;
-
-// The place of a name in one number.
-fn pack(name: Name) -> u64
-    requires { (name.from ≤ most_text) × (name.to ≤ most_text) }
-    ensures { result ≡ packed name }
-{
-    name.from as u64 + END * (name.to as u64)
+// A binder by the place of its name. No offset in a text needs more bits, and the stack is cleared for each text.
+#[derive(Clone, Copy)]
+pub(crate) struct Binder {
+    from: u32,
+    to: u32,
 }
 
-fn unpack(w: u64) -> Name
-    ensures { result ≡ place_of w }
-{
-    Name {
-        from: (w % END) as usize,
-        to: (w / END) as usize,
+impl Binder {
+    fn named(name: Name) -> Binder
+        requires { (name.from ≤ most_text) × (name.to ≤ most_text) }
+        ensures { result ≡ binder_of name }
+    {
+        Binder {
+            from: name.from as u32,
+            to: name.to as u32,
+        }
+    }
+
+    fn name(self) -> Name
+        ensures { result ≡ name_at self }
+    {
+        Name {
+            from: self.from as usize,
+            to: self.to as usize,
+        }
     }
 }
 
-// The index that a name has among what is open, from the innermost binder out; 0 where none has that name.
-fn resolve(text: &[u8], stack: &[u64], count: usize, name: Name) -> u64
+// The index that a name has among what is open, from the innermost binder out.
+fn resolve(text: &[u8], stack: &[Option<Binder>], count: usize, name: Name) -> Option<u64>
     requires { Clean text.now × Inside text.now name × Opened text.now stack.now count }
     ensures { found result ≡ resolved (name_of text.now name) 1
         (opens text.now stack.now count) }
 {
-    let mut left = count;
-    let mut index: u64 = 1;
-    while 0 < left {
-        left -= 1;
-        let w = stack[left];
-        if w != 0 {
-            if same_name(text, name, unpack(w)) {
-                return index;
+    let mut index = 1;
+    for open in stack[..count].iter().rev() {
+        if let Some(binder) = *open {
+            if same_name(text, name, binder.name()) {
+                return Some(index);
             }
             index += 1;
         }
     }
-    0
+    None
 }
 
-// A token and the place after it; what opens is 0 for a `(`, and the place of its name for a binder.
+// What opens is a `(`, or a binder by its name.
 #[derive(Clone, Copy)]
 pub(crate) enum Token {
-    Index(u64, Cursor),
-    Opening(u64, Cursor),
-    Closing(Cursor),
-    End(Cursor),
-    Undefined,
+    Index(u64),
+    Open(Option<Binder>),
+    Close,
+    End,
 }
 
+// A token and the place after it.
 pub(crate) fn token_at(
     text: &[u8],
     notation: Notation,
-    stack: &[u64],
+    stack: &[Option<Binder>],
     count: usize,
     here: Cursor,
-) -> Token
+) -> Result<(Token, Cursor), Refusal>
     requires { Clean text.now × Placed text.now here × Valid (notation_of notation) text.now here.at
         × Opened text.now stack.now count }
     ensures { Meets (notation_of notation) text.now
@@ -75,21 +80,19 @@ pub(crate) fn token_at(
 {
     let step = here.next(text, notation);
     let next = step.next;
-    let word = step.word;
-    match word {
-        Word::Number(index) => Token::Index(index, next),
+    match step.word {
+        Word::Number(index) => Ok((Token::Index(index), next)),
         Word::Named(name) => {
-            let index = resolve(text, stack, count, name);
-            if index == 0 {
-                return Token::Undefined;
-            }
-            Token::Index(index, next)
+            let Some(index) = resolve(text, stack, count, name) else {
+                return Err(Refusal::UndefinedFreeVariable);
+            };
+            Ok((Token::Index(index), next))
         }
-        Word::Left => Token::Opening(0, next),
-        Word::Binder(name) => Token::Opening(pack(name), next),
-        Word::Right => Token::Closing(next),
-        Word::End => Token::End(next),
+        Word::Left => Ok((Token::Open(None), next)),
+        Word::Binder(name) => Ok((Token::Open(Some(Binder::named(name))), next)),
+        Word::Right => Ok((Token::Close, next)),
+        Word::End => Ok((Token::End, next)),
         // not met: all words were judged
-        Word::Invalid => Token::Undefined,
+        Word::Invalid => unreachable!(),
     }
 }

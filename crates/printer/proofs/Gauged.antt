@@ -1,4 +1,5 @@
 -- The walk over any bytes: the term at each head from those of its parts, and what is left to be found.
+use Rattle.std.specs.Prelude.{Option, Some}
 use Prim.Native.Nat.{ℕ, ◌+◌, ◌-◌, ◌≤◌, ◌<◌, max}
 use mathlib.Core.Path.{◌≡◌, refl, ap, ◌∙◌}
 use mathlib.Core.Bool.{Bool, cond}
@@ -29,11 +30,11 @@ use Rattle.printer.proofs.Printing.{whole-text}
 use Rattle.printer.proofs.TextRoom.{length-var, length-lam, length_app}
 
 -- what is read where a head stands
-read_by : (s : List ℕ) (at : ℕ) {h : Head} → head_in (drop at s) ≡ h → first (drop at s) ≡ by_head h (drop at s)
+read_by : (s : List ℕ) (at : ℕ) {h : Option Head} → head_in (drop at s) ≡ h → first (drop at s) ≡ by_head h (drop at s)
 read_by s at e = first_by_head (drop at s) ∙ ap (λ h. by_head h (drop at s)) e
 
 module _ {n : Notation} {s : List ℕ} {at d : ℕ} {part : Part} {room count most text : ℕ} (some : 0 < room) where
-  pub gauged-variable : {i v deeper : ℕ} → Gaugeable s at d room count text → head_in (drop at s) ≡ Variable i
+  pub gauged-variable : {i v deeper : ℕ} → Gaugeable s at d room count text → head_in (drop at s) ≡ Some (Variable i)
       → deeper ≡ max most d → VariableRoom n d i v
       → Gauged n s at d part room count most text (at + 9) (count + 1) deeper (text + v)
   unfolding height nodes max_depth
@@ -50,7 +51,7 @@ module _ {n : Notation} {s : List ℕ} {at d : ℕ} {part : Part} {room count mo
   }
 
   module _ {p next count' most' text' : ℕ} {g : Bool} (pair : p ≡ cond g 2 0) where
-    pub gauged-abstraction : {b : ℕ} → head_in (drop at s) ≡ Abstraction → g ≡ groups_lam part → BinderRoom n d b
+    pub gauged-abstraction : {b : ℕ} → head_in (drop at s) ≡ Some Abstraction → g ≡ groups_lam part → BinderRoom n d b
         → Gauged n s (at + 1) (d + 1) Whole (room - 1) (count + 1) most (text + (p + b)) next count' most' text'
         → Gauged n s at d part room count most text next count' most' text'
     unfolding height nodes max_depth
@@ -72,7 +73,7 @@ module _ {n : Notation} {s : List ℕ} {at d : ℕ} {part : Part} {room count mo
       small = body.small;
     }
 
-    pub gauged-application : {gap mid count₁ most₁ text₁ : ℕ} → head_in (drop at s) ≡ Application
+    pub gauged-application : {gap mid count₁ most₁ text₁ : ℕ} → head_in (drop at s) ≡ Some Application
         → g ≡ groups_app part → gap ≡ length (gap_text (notation_of n))
         → Gauged n s (at + 1) d Left (room - 1) (count + 1) most (text + (p + gap)) mid count₁ most₁ text₁
         → Gauged n s mid d Right (room - 1) count₁ most₁ text₁ next count' most' text'
@@ -150,7 +151,7 @@ module _ {n : Notation} {s : List ℕ} {at₀ d₀ : ℕ} {part₀ : Part} {room
   some : 0 < room
   some = omega arith
 
-  pub at_variable : {i v deeper : ℕ} → head_in (drop at s) ≡ Variable i → deeper ≡ max most d → VariableRoom n d i v
+  pub at_variable : {i v deeper : ℕ} → head_in (drop at s) ≡ Some (Variable i) → deeper ≡ max most d → VariableRoom n d i v
       → Gauges n s at₀ d₀ part₀ room₀ count₀ most₀ text₀ (at + 9) (count + 1) deeper (text + v)
   at_variable h e v = record { gauged = λ _. now.onward (gauged-variable some now.ready h e v) }
 
@@ -167,7 +168,7 @@ module _ {n : Notation} {s : List ℕ} {at₀ d₀ : ℕ} {part₀ : Part} {room
         small = omega (arith, r.small);
       }
 
-  pub at_abstraction : {p b : ℕ} {g : Bool} → head_in (drop at s) ≡ Abstraction → g ≡ groups_lam part
+  pub at_abstraction : {p b : ℕ} {g : Bool} → head_in (drop at s) ≡ Some Abstraction → g ≡ groups_lam part
       → (p ≡ cond g 2 0) × (p ≤ 2) → BinderRoom n d b
       → Onward n s at₀ d₀ part₀ room₀ count₀ most₀ text₀ (at + 1) (d + 1) Whole (room - 1)
       (count + 1) most (text + (p + b))
@@ -177,12 +178,12 @@ module _ {n : Notation} {s : List ℕ} {at₀ d₀ : ℕ} {part₀ : Part} {room
     onward = λ body. now.onward (gauged-abstraction some pair h e b body);
   }
 
-  pub left-ready : {p gap : ℕ} → head_in (drop at s) ≡ Application → p ≤ 2 → gap ≤ 1
+  pub left-ready : {p gap : ℕ} → head_in (drop at s) ≡ Some Application → p ≤ 2 → gap ≤ 1
       → Gaugeable s (at + 1) d (room - 1) (count + 1) (text + (p + gap))
   left-ready h two one =
       ready-next (head_within s at now.ready.inside h) (omega arith) (omega arith)
 
-  pub at_application : {p gap mid count₁ most₁ text₁ : ℕ} {g : Bool} → head_in (drop at s) ≡ Application
+  pub at_application : {p gap mid count₁ most₁ text₁ : ℕ} {g : Bool} → head_in (drop at s) ≡ Some Application
       → g ≡ groups_app part → (p ≡ cond g 2 0) × (p ≤ 2) → (gap ≡ length (gap_text (notation_of n))) × (gap ≤ 1)
       → Gauges n s (at + 1) d Left (room - 1) (count + 1) most (text + (p + gap)) mid count₁ most₁ text₁
       → (mid ≡ 0 → ⊥)

@@ -18,7 +18,7 @@ use Rattle.calculus.proofs.Coding.{AllBytes}
 use Rattle.calculus.proofs.Judged.{checked-given}
 use Rattle.calculus.proofs.Putting.{laid, puts-length}
 use Rattle.calculus.proofs.Shown.{text-length}
-use Rattle.term.specs.Answers.{check_told, check_of}
+use Rattle.term.specs.Answers.{told, check_of}
 use Rattle.term.specs.FactsOf.{facts_of}
 use Rattle.term.specs.Notations.{notation_of}
 use Rattle.term.specs.Surveys.{Stands}
@@ -26,8 +26,7 @@ use Rattle.term.specs.declared.Facts.{Facts}
 use Rattle.term.specs.declared.Notation.{Notation}
 use Rattle.term.specs.declared.Refusal.{Refusal}
 use Rattle.term.specs.declared.Refusal.TheVariants.{OutputTooShort}
-use Rattle.term.specs.declared.Checked.{Checked}
-use Rattle.term.specs.declared.Checked.TheVariants as checks
+use Rattle.std.specs.Prelude.{Result, Ok, Err}
 use Rattle.term.proofs.Checking.{decoded_stands, check-whole, check-refused}
 use Rattle.printer.specs.Parts.{part_text, Writable}
 use Rattle.printer.specs.Answers.{printed_told}
@@ -151,13 +150,13 @@ module _ {w : Style} {plenty : ℕ} (s : List ℕ) {t : Term} (passes : checked 
   printed-passed print = rw passes (print.printed t (decoded_stands s bytes (checked-given s passes).0) style)
 
 -- after a check
-module _ (n : Notation) (s : List ℕ) {r : Checked} (says : check_told r ≡ check_of most_nodes s) where
-  pub refuses-input : (out : List ℕ) {why : Refusal} → r ≡ checks.Refused why
+module _ (n : Notation) (s : List ℕ) {r : Result Facts Refusal} (says : told r ≡ check_of most_nodes s) where
+  pub refuses-input : (out : List ℕ) {why : Refusal} → r ≡ Err why
       → (printed_told (Refused why), out) ≡ print_of (notation_of n) s out
   unfolding print_of printed_told
   refuses-input out e = rw (check-refused most_nodes s says e)
 
-  module _ {f : Facts} (e : r ≡ checks.Whole f) where
+  module _ {f : Facts} (e : r ≡ Ok f) where
     pub few-nodes : f.nodes ≤ most_nodes
     unfolding facts_of
     few-nodes =

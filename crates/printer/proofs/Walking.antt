@@ -1,4 +1,5 @@
 -- The walk that writes a term: what is left to be written at each node, and that all of it can be counted.
+use Rattle.std.specs.Prelude.{Option, Some}
 use Prim.Native.Nat.{ℕ, ◌+◌, ◌-◌, ◌≤◌, ◌<◌}
 use mathlib.Core.Path.{◌≡◌, refl, sym, ap, ◌∙◌}
 use mathlib.Core.Bool.{Bool, true, false}
@@ -11,8 +12,10 @@ use Rattle.calculus.proofs.Measures.{height_positive}
 use Rattle.calculus.proofs.Sizes.{size, size_positive}
 use Rattle.term.specs.Heads.{head_in}
 use Rattle.term.specs.Surveys.{Stands}
-use Rattle.term.specs.declared.Head.TheVariants.{Variable, Abstraction, Application, Nothing}
-use Rattle.term.proofs.Places.{IsApplication, is-variable, is-abstraction, is-application, is_something, size-within}
+use Rattle.std.specs.Option.{IsSome}
+use Rattle.term.specs.declared.Head.{Head}
+use Rattle.term.specs.declared.Head.TheVariants.{Variable, Abstraction, Application}
+use Rattle.term.proofs.Places.{IsApplication, is-variable, is-abstraction, is-application, head_stands, size-within}
 use Rattle.calculus.proofs.Putting.{Puts}
 use Rattle.printer.specs.Pieces.{variable_of, binder_of, gap_of}
 use Rattle.printer.specs.Parts.{groups_lam, groups_app, part_text, Writable, Writes}
@@ -85,7 +88,7 @@ module _ {w : Style} {s : List ℕ} {start above : ℕ} {first : Part} {before :
   module _ {at depth : ℕ} {part : Part} {closes : ℕ} {out : List ℕ} {to : ℕ}
       (now : On w s start above first before from at depth part closes out to) where
     -- AT A VARIABLE the text ends, but for the parentheses to close
-    pub at_variable : {i place end : ℕ} {mid after : List ℕ} → head_in (drop at s) ≡ Variable i
+    pub at_variable : {i place end : ℕ} {mid after : List ℕ} → head_in (drop at s) ≡ Some (Variable i)
         → Puts out to (variable_of w depth i) place mid → Puts mid place (replicate closes 41) end after
         → Writes w s start above first before from (record { next = at + 9; to = end }) after
     unfolding size
@@ -105,7 +108,7 @@ module _ {w : Style} {s : List ℕ} {start above : ℕ} {first : Part} {before :
     }
 
     -- AT AN ABSTRACTION the body is left
-    pub at_abstraction : {g : Bool} {place to' : ℕ} {mid after : List ℕ} → head_in (drop at s) ≡ Abstraction
+    pub at_abstraction : {g : Bool} {place to' : ℕ} {mid after : List ℕ} → head_in (drop at s) ≡ Some Abstraction
         → g ≡ groups_lam part → Puts out to (opening g) place mid → Puts mid place (binder_of w depth) to' after
         → On w s start above first before from (at + 1) (depth + 1) Whole (closes + (place - to)) after to'
     unfolding size height
@@ -131,7 +134,7 @@ module _ {w : Style} {s : List ℕ} {start above : ℕ} {first : Part} {before :
 
     -- AT AN APPLICATION, once its left part is written, the right part is left
     pub at_application : {g : Bool} {place to' : ℕ} {r : Reached} {mid more after : List ℕ}
-        → head_in (drop at s) ≡ Application → g ≡ groups_app part → Puts out to (opening g) place mid
+        → head_in (drop at s) ≡ Some Application → g ≡ groups_app part → Puts out to (opening g) place mid
         → Writes w s (at + 1) depth Left mid place r more → Puts more r.to (gap_of w) to' after
         → On w s start above first before from r.next depth Right (closes + (place - to)) after to'
     unfolding size height
@@ -160,12 +163,11 @@ module _ {w : Style} {s : List ℕ} {start above : ℕ} {first : Part} {before :
               };
         })
 
-    pub at_nothing : {r : Reached} {after : List ℕ} → head_in (drop at s) ≡ Nothing
-        → Writes w s start above first before from r after
-    at_nothing h = record {
-      ends = λ t st. absurd (is_something (now.on t st).term h (now.on t st).stands);
-      puts = λ t st. absurd (is_something (now.on t st).term h (now.on t st).stands);
-    }
+    -- a head stands where the walk is
+    pub head-there : {room : ℕ} → Writable w s start above first from room → (o : Option Head)
+        → o ≡ head_in (drop at s)
+        → IsSome o
+    head-there asked = head_stands (now.on asked.term asked.stands).stands
 
     -- WHAT THE CALLS ASK, from what was asked of the whole
     module _ {room : ℕ} (asked : Writable w s start above first from room) where
@@ -179,7 +181,7 @@ module _ {w : Style} {s : List ℕ} {start above : ℕ} {first : Part} {before :
       pub on_length : length out ≡ length before
       on_length = leaves-length _ _ (now.on asked.term asked.stands).left
 
-      pub variable_asks : {i : ℕ} → head_in (drop at s) ≡ Variable i → VariableAsks w s at depth i closes to
+      pub variable_asks : {i : ℕ} → head_in (drop at s) ≡ Some (Variable i) → VariableAsks w s at depth i closes to
       unfolding size
       variable_asks {i} h =
           let x = now.on asked.term asked.stands in
@@ -191,7 +193,7 @@ module _ {w : Style} {s : List ℕ} {start above : ℕ} {first : Part} {before :
             inside = omega (arith, size-within x.stands, ap size e);
           }
 
-      pub abstraction_asks : head_in (drop at s) ≡ Abstraction → AbstractionAsks w s at depth part closes to room
+      pub abstraction_asks : head_in (drop at s) ≡ Some Abstraction → AbstractionAsks w s at depth part closes to room
       unfolding size height
       abstraction_asks h =
           let x = now.on asked.term asked.stands in
@@ -209,11 +211,11 @@ module _ {w : Style} {s : List ℕ} {start above : ℕ} {first : Part} {before :
           }
 
       -- the application that stands here
-      here : (h : head_in (drop at s) ≡ Application) → let x = now.on asked.term asked.stands in
+      here : (h : head_in (drop at s) ≡ Some Application) → let x = now.on asked.term asked.stands in
           IsApplication s at x.term
       here h = let x = now.on asked.term asked.stands in is-application x.term h x.stands
 
-      left_and_gap : (h : head_in (drop at s) ≡ Application) → let left = part_text w depth Left (here h).left in
+      left_and_gap : (h : head_in (drop at s) ≡ Some Application) → let left = part_text w depth Left (here h).left in
           to + length (opening (groups_app part)) + length left + length (gap_of w) ≤ greatest_number
       unfolding here
       left_and_gap h =
@@ -226,7 +228,7 @@ module _ {w : Style} {s : List ℕ} {start above : ℕ} {first : Part} {before :
           let all = counted (opening g) (left ++ (gap_of w ++ right)) text in
           omega (arith, all, length-append left (gap_of w ++ right), length-append (gap_of w) right)
 
-      pub application_asks : head_in (drop at s) ≡ Application → ApplicationAsks s at part closes to room
+      pub application_asks : head_in (drop at s) ≡ Some Application → ApplicationAsks s at part closes to room
       unfolding size height
       application_asks h =
           let x = now.on asked.term asked.stands in
@@ -238,7 +240,7 @@ module _ {w : Style} {s : List ℕ} {start above : ℕ} {first : Part} {before :
             closable = omega (arith, x.closable, ap height v.same, asked.low);
           }
 
-      module _ {g : Bool} {place : ℕ} (h : head_in (drop at s) ≡ Application) (e : g ≡ groups_app part)
+      module _ {g : Bool} {place : ℕ} (h : head_in (drop at s) ≡ Some Application) (e : g ≡ groups_app part)
           (opened : place ≡ to + length (opening g)) where
         pub left_asks : Writable w s (at + 1) depth Left place (room - 1)
         unfolding height

@@ -97,7 +97,10 @@ fn gauge_part(
         }
         room -= 1;
         *nodes += 1;
-        match term::head_at(s, at) {
+        let Some(head) = term::head_at(s, at) else {
+            return 0;
+        };
+        match head {
             Head::Variable(index) => {
                 *most = larger(*most, depth);
                 *text += variable_room(notation, depth, index);
@@ -118,7 +121,6 @@ fn gauge_part(
                 }
                 part = Part::Right;
             }
-            Head::Nothing => return 0,
         }
     }
 }

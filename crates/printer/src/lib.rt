@@ -19,7 +19,7 @@ ghost use Rattle.printer.specs.declared.Part.TheVariants.{Whole};
 use calculus::{MOST_HEIGHT, MOST_NODES};
 use gauging::Gauge;
 use pieces::Style;
-use term::{Checked, Head, Notation, Refusal};
+use term::{Head, Notation, Refusal};
 
 // Which part of an application a term is, or none.
 #[derive(Clone, Copy)]
@@ -75,7 +75,8 @@ fn write_part(
 {
     let mut closes: usize = 0;
     loop {
-        match term::head_at(s, at) {
+        // a term begins here
+        match term::head_at(s, at).unwrap() {
             Head::Variable(index) => {
                 let end = pieces::put_variable(out, to, style, depth, index);
                 let to = putting::put_times(out, end, b')', closes);
@@ -97,8 +98,6 @@ fn write_part(
                 part = Part::Right;
                 at = left.next;
             }
-            // not met: a term begins here
-            Head::Nothing => return Reached { next: at, to },
         }
     }
 }
@@ -172,8 +171,8 @@ fn print_checked(notation: Notation, s: &[u8], out: &mut [u8]) -> Printed
         ≡ print_of (notation_of notation) s.now out.old }
 {
     match term::check(MOST_NODES, s) {
-        Checked::Refused(why) => Printed::Refused(why),
-        Checked::Whole(facts) => {
+        Err(why) => Printed::Refused(why),
+        Ok(facts) => {
             let style = Style {
                 notation,
                 most: facts.depth,

@@ -36,9 +36,7 @@ fn put_figures(out: &mut [u8], to: usize, index: u64, count: usize) -> usize
     ensures { Puts out.old to (figures count index) result out.new }
 {
     let mut place = to;
-    let mut left = count;
-    while 0 < left {
-        left -= 1;
+    for left in (0..count).rev() {
         place = put_figure(out, place, (index >> (4 * left)) % 16);
     }
     place

@@ -21,10 +21,8 @@ pub fn put_all(out: &mut [u8], to: usize, text: &[u8]) -> usize
     ensures { Puts out.old to text.now result out.new }
 {
     let mut place = to;
-    let mut i: usize = 0;
-    while i < text.len() {
-        place = put(out, place, text[i]);
-        i += 1;
+    for &byte in text {
+        place = put(out, place, byte);
     }
     place
 }
@@ -34,10 +32,8 @@ pub(crate) fn put_times(out: &mut [u8], to: usize, b: u8, times: usize) -> usize
     ensures { Puts out.old to (replicate times b) result out.new }
 {
     let mut place = to;
-    let mut i: usize = 0;
-    while i < times {
+    for _ in 0..times {
         place = put(out, place, b);
-        i += 1;
     }
     place
 }

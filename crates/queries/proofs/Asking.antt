@@ -7,21 +7,20 @@ use Rattle.calculus.specs.Bounds.{most_nodes}
 use Rattle.calculus.specs.Refusal.{Answer, given, refused, ◌then◌}
 use Rattle.calculus.specs.Outcomes.{checked, query_of}
 use Rattle.term.specs.FactsOf.{facts_of}
-use Rattle.term.specs.Answers.{refusal_of, check_told, check_of}
+use Rattle.term.specs.Answers.{refusal_of, told, check_of}
 use Rattle.term.specs.declared.Facts.{Facts}
 use Rattle.term.specs.declared.Refusal.{Refusal}
-use Rattle.term.specs.declared.Checked.{Checked}
-use Rattle.term.specs.declared.Checked.TheVariants.{Whole, Refused}
+use Rattle.std.specs.Prelude.{Result, Ok, Err}
 use Rattle.term.proofs.Checking.{check-whole, check-refused}
 
-module _ (s : List ℕ) {r : Checked} (says : check_told r ≡ check_of most_nodes s) {A : Type 0} where
-  pub asked : (pick : Facts → A) {f : Facts} → r ≡ Whole f → given (pick f) ≡ query_of (λ t. pick (facts_of 0 t)) s
+module _ (s : List ℕ) {r : Result Facts Refusal} (says : told r ≡ check_of most_nodes s) {A : Type 0} where
+  pub asked : (pick : Facts → A) {f : Facts} → r ≡ Ok f → given (pick f) ≡ query_of (λ t. pick (facts_of 0 t)) s
   unfolding query_of
   asked pick e =
       let w = check-whole most_nodes s says e in
       ap (λ f. given (pick f)) w.same ∙ rw w.let_through
 
-  pub refused_alike : (ask : Term → A) {why : Refusal} → r ≡ Refused why → refused (refusal_of why) ≡ query_of ask s
+  pub refused_alike : (ask : Term → A) {why : Refusal} → r ≡ Err why → refused (refusal_of why) ≡ query_of ask s
   unfolding query_of
   refused_alike ask e = rw (check-refused most_nodes s says e)
 

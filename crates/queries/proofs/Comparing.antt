@@ -21,22 +21,21 @@ use Rattle.calculus.proofs.Tests.{is_false}
 use Rattle.term.specs.Heads.{head_in}
 use Rattle.term.specs.Surveys.{Stands, Begins}
 use Rattle.term.specs.declared.Head.{Head}
-use Rattle.term.specs.declared.Head.TheVariants.{Variable, Abstraction, Application, Nothing}
-use Rattle.term.specs.Answers.{refusal_of, check_told, check_of}
+use Rattle.term.specs.declared.Head.TheVariants.{Variable, Abstraction, Application}
+use Rattle.term.specs.Answers.{refusal_of, told, check_of}
 use Rattle.term.specs.declared.Facts.{Facts}
 use Rattle.term.specs.declared.Refusal.{Refusal}
-use Rattle.term.specs.declared.Checked.{Checked}
-use Rattle.term.specs.declared.Checked.TheVariants.{Whole, Refused}
+use Rattle.std.specs.Prelude.{Option, Some, None, Result, Ok, Err}
 use Rattle.term.proofs.Checking.{decoded_stands, check-whole, check-refused}
 use Rattle.term.proofs.Places.{head_of_term, head_at, term-begins}
-use Rattle.term.proofs.Places.{is-variable, is-abstraction, is-application, is_something}
+use Rattle.term.proofs.Places.{is-variable, is-abstraction, is-application}
 use Rattle.queries.specs.Comparing.{kind_of, index_of, Decides, holds, fails, Low, until_if, Compares, agrees}
 use Rattle.queries.specs.declared.Same.{Same}
 use Rattle.queries.specs.declared.Same.TheVariants.{Until, Differs}
 
 -- HEADS are told apart by kind and index
 head_from : (kind index : ℕ) → Head
-head_from zero i = Nothing
+head_from zero i = Application
 head_from (suc zero) i = Variable i
 head_from (suc (suc zero)) i = Abstraction
 head_from (suc (suc (suc k))) i = Application
@@ -46,7 +45,6 @@ unfolding head_from
 head_back (Variable i) = refl
 head_back Abstraction = refl
 head_back Application = refl
-head_back Nothing = refl
 
 pub heads_decided : (a b : Head) → kind_of a ≡ kind_of b → (t : Bool) → eqb (index_of a) (index_of b) ≡ t
     → Decides (a ≡ b) t
@@ -78,14 +76,14 @@ module _ {s u : List ℕ} {at : ℕ} where
         rw (is_false (same t v) (λ e. ne (head_at st ∙ ap head_of_term (same_equal t v e) ∙ sym (head_at su))));
   }
 
-  pub same-variable : {i : ℕ} → head_in (drop at s) ≡ Variable i → head_in (drop at u) ≡ Variable i
+  pub same-variable : {i : ℕ} → head_in (drop at s) ≡ Some (Variable i) → head_in (drop at u) ≡ Some (Variable i)
       → Compares s u at (Until (at + 9))
   unfolding size
   same-variable {i} h k = record {
     compared = λ t v st su. rw (is-variable t h st, is-variable v k su, same_refl (var i));
   }
 
-  pub same-abstraction : {r : Same} → head_in (drop at s) ≡ Abstraction → head_in (drop at u) ≡ Abstraction
+  pub same-abstraction : {r : Same} → head_in (drop at s) ≡ Some Abstraction → head_in (drop at u) ≡ Some Abstraction
       → Compares s u (at + 1) r → Compares s u at r
   unfolding same size
   same-abstraction h k body = record {
@@ -96,7 +94,7 @@ module _ {s u : List ℕ} {at : ℕ} where
         rw (x.same, y.same) (found ∙ ap (until_if (same x.body y.body)) (omega arith));
   }
 
-  pub left_differs : {l : Same} → head_in (drop at s) ≡ Application → head_in (drop at u) ≡ Application
+  pub left_differs : {l : Same} → head_in (drop at s) ≡ Some Application → head_in (drop at u) ≡ Some Application
       → Compares s u (at + 1) l → l ≡ Differs → Compares s u at Differs
   unfolding same
   left_differs h k left e = record {
@@ -108,7 +106,7 @@ module _ {s u : List ℕ} {at : ℕ} where
   }
 
   -- the left parts are the same: where the right ones stand
-  left-same : {l : Same} {mid : ℕ} → (h : head_in (drop at s) ≡ Application) (k : head_in (drop at u) ≡ Application)
+  left-same : {l : Same} {mid : ℕ} → (h : head_in (drop at s) ≡ Some Application) (k : head_in (drop at u) ≡ Some Application)
       → Compares s u (at + 1) l → l ≡ Until mid → (t v : Term) (st : Stands s at t) (su : Stands u at v)
       → let x = is-application t h st in let y = is-application v k su in
       (same x.left y.left ≡ true) × (mid ≡ at + 1 + size x.left)
@@ -121,8 +119,8 @@ module _ {s u : List ℕ} {at : ℕ} where
       let one = same_equal x.left y.left alike in
       (alike, end, rw end x.right_at, rw (end, one) y.right_at)
 
-  pub same-application : {l r : Same} {mid : ℕ} → head_in (drop at s) ≡ Application
-      → head_in (drop at u) ≡ Application → Compares s u (at + 1) l → l ≡ Until mid → Compares s u mid r
+  pub same-application : {l r : Same} {mid : ℕ} → head_in (drop at s) ≡ Some Application
+      → head_in (drop at u) ≡ Some Application → Compares s u (at + 1) l → l ≡ Until mid → Compares s u mid r
       → Compares s u at r
   unfolding same size
   same-application h k left e right = record {
@@ -133,9 +131,6 @@ module _ {s u : List ℕ} {at : ℕ} where
         let found = right.compared x.right y.right rs ru in
         rw (x.same, y.same, alike) (found ∙ ap (until_if (same x.right y.right)) (omega arith));
   }
-
-  pub at_nothing : {r : Same} → head_in (drop at s) ≡ Nothing → Compares s u at r
-  at_nothing h = record { compared = λ t v st su. absurd (is_something t h st) }
 
 -- WHAT A CALL ASKS
 stands-low : {s : List ℕ} {at room : ℕ} {t : Term} → Stands s at t → height t ≤ room → Low s at room
@@ -148,20 +143,20 @@ stands-low {t = t} st low =
     }
 
 module _ {s : List ℕ} {at room : ℕ} (st : Low s at room) where
-  pub body-low : head_in (drop at s) ≡ Abstraction → Low s (at + 1) (room - 1)
+  pub body-low : head_in (drop at s) ≡ Some Abstraction → Low s (at + 1) (room - 1)
   unfolding height
   body-low h =
       let x = is-abstraction st.begins.term h st.begins.stands in
       stands-low x.body_at (omega (arith, st.low, ap height x.same))
 
-  pub left-low : head_in (drop at s) ≡ Application → Low s (at + 1) (room - 1)
+  pub left-low : head_in (drop at s) ≡ Some Application → Low s (at + 1) (room - 1)
   unfolding height
   left-low h =
       let x = is-application st.begins.term h st.begins.stands in
       stands-low x.left_at (omega (arith, st.low, ap height x.same))
 
-  module _ {u : List ℕ} (su : Begins u at) {l : Same} {mid : ℕ} (h : head_in (drop at s) ≡ Application)
-      (k : head_in (drop at u) ≡ Application) (left : Compares s u (at + 1) l) (e : l ≡ Until mid) where
+  module _ {u : List ℕ} (su : Begins u at) {l : Same} {mid : ℕ} (h : head_in (drop at s) ≡ Some Application)
+      (k : head_in (drop at u) ≡ Some Application) (left : Compares s u (at + 1) l) (e : l ≡ Until mid) where
     pub right-low : Low s mid (room - 1)
     unfolding height
     right-low =
@@ -177,27 +172,27 @@ module _ {s : List ℕ} {at room : ℕ} (st : Low s at room) where
         term-begins ru
 
 -- THE ANSWER for two inputs
-pub whole-low : (s : List ℕ) {r : Checked} {f : Facts} → AllBytes s → check_told r ≡ check_of most_nodes s → r ≡ Whole f
+pub whole-low : (s : List ℕ) {r : Result Facts Refusal} {f : Facts} → AllBytes s → told r ≡ check_of most_nodes s → r ≡ Ok f
     → Low s 0 most_height
 whole-low s bytes says e =
     let w = check-whole most_nodes s says e in
     let (decoded, low, few) = checked-given s w.let_through in
     stands-low (decoded_stands s bytes decoded) low
 
-module _ (s u : List ℕ) {r : Checked} (says : check_told r ≡ check_of most_nodes s) where
-  pub refuses-first : {why : Refusal} → r ≡ Refused why → refused (refusal_of why) ≡ equality_of s u
+module _ (s u : List ℕ) {r : Result Facts Refusal} (says : told r ≡ check_of most_nodes s) where
+  pub refuses-first : {why : Refusal} → r ≡ Err why → refused (refusal_of why) ≡ equality_of s u
   unfolding equality_of
   refuses-first e = rw (check-refused most_nodes s says e)
 
-  module _ {f : Facts} (e : r ≡ Whole f) {q : Checked} (says' : check_told q ≡ check_of most_nodes u) where
-    pub refuses-second : {why : Refusal} → q ≡ Refused why → refused (refusal_of why) ≡ equality_of s u
+  module _ {f : Facts} (e : r ≡ Ok f) {q : Result Facts Refusal} (says' : told q ≡ check_of most_nodes u) where
+    pub refuses-second : {why : Refusal} → q ≡ Err why → refused (refusal_of why) ≡ equality_of s u
     unfolding equality_of
     refuses-second k =
         let w = check-whole most_nodes s says e in
         rw (w.let_through, check-refused most_nodes u says' k)
 
     -- the comparison is about the two terms that were let through
-    pub answers : {g : Facts} {x : Same} → q ≡ Whole g → AllBytes s → AllBytes u → Compares s u 0 x
+    pub answers : {g : Facts} {x : Same} → q ≡ Ok g → AllBytes s → AllBytes u → Compares s u 0 x
         → given (agrees x) ≡ equality_of s u
     unfolding equality_of
     answers k bytes bytes' found =

@@ -5,7 +5,7 @@ use Rattle.calculus.specs.Queries.{same}
 use Rattle.calculus.proofs.Sizes.{size}
 use Rattle.term.specs.Surveys.{Stands, Begins}
 use Rattle.term.specs.declared.Head.{Head}
-use Rattle.term.specs.declared.Head.TheVariants.{Variable, Abstraction, Application, Nothing}
+use Rattle.term.specs.declared.Head.TheVariants.{Variable, Abstraction, Application}
 use Rattle.queries.specs.declared.Same.{Same}
 use Rattle.queries.specs.declared.Same.TheVariants.{Until, Differs}
 
@@ -13,13 +13,11 @@ abbrev pub kind_of : Head → ℕ
 kind_of (Variable i) = 1
 kind_of Abstraction = 2
 kind_of Application = 3
-kind_of Nothing = 0
 
 abbrev pub index_of : Head → ℕ
 index_of (Variable i) = i
 index_of Abstraction = 0
 index_of Application = 0
-index_of Nothing = 0
 
 -- true exactly if P holds
 pub data Decides (P : Type 0) : Bool → Type 0 where

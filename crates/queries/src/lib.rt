@@ -10,7 +10,7 @@ ghost use Rattle.queries.specs.Asking.{picked, number_of};
 ghost use Rattle.queries.specs.Comparing.{kind_of, index_of, Decides, Low, Compares, agrees};
 
 use calculus::{MOST_HEIGHT, MOST_NODES};
-use term::{Checked, Facts, Head, Refusal};
+use term::{Facts, Head, Refusal};
 
 // The answer of a query: a number or a refusal, a truth or a refusal.
 #[derive(Clone, Copy)]
@@ -49,8 +49,8 @@ fn ask(query: Query, s: &[u8]) -> Number
     ensures { number_told result ≡ number_of query s.now }
 {
     match term::check(MOST_NODES, s) {
-        Checked::Whole(facts) => Number::Given(pick(query, facts)),
-        Checked::Refused(why) => Number::Refused(why),
+        Ok(facts) => Number::Given(pick(query, facts)),
+        Err(why) => Number::Refused(why),
     }
 }
 
@@ -87,8 +87,8 @@ pub fn has_free_variables(s: &[u8]) -> Truth
     ensures { truth_told result ≡ has_free_variables_of s.now }
 {
     match term::check(MOST_NODES, s) {
-        Checked::Whole(facts) => Truth::Given(facts.free),
-        Checked::Refused(why) => Truth::Refused(why),
+        Ok(facts) => Truth::Given(facts.free),
+        Err(why) => Truth::Refused(why),
     }
 }
 
@@ -102,7 +102,7 @@ pub fn is_supercombinator(s: &[u8]) -> Truth
     }
 }
 
-// A head's kind byte, 0 for none, and its index, 0 for none: together they tell heads apart.
+// A head's kind byte, and its index, 0 for none: together they tell heads apart.
 fn kind(head: Head) -> u64
     ensures { result ≡ kind_of head }
 {
@@ -110,7 +110,6 @@ fn kind(head: Head) -> u64
         Head::Variable(_) => 1,
         Head::Abstraction => 2,
         Head::Application => 3,
-        Head::Nothing => 0,
     }
 }
 
@@ -121,7 +120,6 @@ fn index(head: Head) -> u64
         Head::Variable(i) => i,
         Head::Abstraction => 0,
         Head::Application => 0,
-        Head::Nothing => 0,
     }
 }
 
@@ -148,8 +146,9 @@ fn same_at(s: &[u8], u: &[u8], at: usize, room: u64) -> Same
     requires begins { Begins u.now at }
     ensures { Compares s.now u.now at result }
 {
-    let head = term::head_at(s, at);
-    let other = term::head_at(u, at);
+    // a term begins here in both
+    let head = term::head_at(s, at).unwrap();
+    let other = term::head_at(u, at).unwrap();
     if !same_head(head, other) {
         return Same::Differs;
     }
@@ -162,8 +161,6 @@ fn same_at(s: &[u8], u: &[u8], at: usize, room: u64) -> Same
             };
             same_at(s, u, mid, room - 1)
         }
-        // not met: a term begins here
-        Head::Nothing => Same::Differs,
     }
 }
 
@@ -181,10 +178,10 @@ pub fn equality(s: &[u8], u: &[u8]) -> Truth
     ensures { truth_told result ≡ equality_of s.now u.now }
 {
     match term::check(MOST_NODES, s) {
-        Checked::Refused(first) => Truth::Refused(first),
-        Checked::Whole(_) => match term::check(MOST_NODES, u) {
-            Checked::Refused(second) => Truth::Refused(second),
-            Checked::Whole(_) => Truth::Given(agree(same_at(s, u, 0, MOST_HEIGHT))),
+        Err(first) => Truth::Refused(first),
+        Ok(_) => match term::check(MOST_NODES, u) {
+            Err(second) => Truth::Refused(second),
+            Ok(_) => Truth::Given(agree(same_at(s, u, 0, MOST_HEIGHT))),
         },
     }
 }

@@ -1,4 +1,5 @@
 -- What `apply` answers: the inputs' refusals, 11, then what the contraction gives, and 1 and 2 before.
+use Rattle.std.specs.Prelude.{Some}
 use Prim.Native.Nat.{ℕ, ◌-◌, ◌*◌, ◌≤◌, ◌<◌}
 use mathlib.Core.Path.{◌≡◌, refl, ap, ◌∙◌}
 use mathlib.Core.List.{List, ◌++◌}
@@ -14,10 +15,10 @@ use Rattle.calculus.proofs.Sizes.{size_positive}
 use Rattle.term.specs.Answers.{refusal_of}
 use Rattle.term.specs.Heads.{head_in}
 use Rattle.term.specs.Surveys.{Stands, Admitted}
-use Rattle.term.specs.declared.Head.TheVariants.{Variable, Abstraction, Application, Nothing}
+use Rattle.term.specs.declared.Head.TheVariants.{Variable, Abstraction, Application}
 use Rattle.term.specs.declared.Refusal.{Refusal}
 use Rattle.term.specs.declared.Refusal.TheVariants.{NotAbs}
-use Rattle.term.proofs.Places.{is-variable, is-abstraction, is-application, is_something, size-within}
+use Rattle.term.proofs.Places.{is-variable, is-abstraction, is-application, size-within}
 use Rattle.nodes.specs.Store.{Holds}
 use Rattle.nodes.specs.Coded.{Loadable, Loads}
 use Rattle.nodes.specs.Answers.{granted_told, granting}
@@ -69,19 +70,16 @@ module _ (cap : ℕ) (s u : List ℕ) {out store : List ℕ} where
       unfolding applied
       no_body is e = refuses_there NotAbs out store (rw (first.passes, second.passes, is, e))
 
-      pub at_variable : {i : ℕ} → head_in (drop 0 s) ≡ Variable i
+      pub at_variable : {i : ℕ} → head_in (drop 0 s) ≡ Some (Variable i)
           → Works (applied cap s u) out store (Refused NotAbs) out store
       at_variable h = no_body (is-variable first.term h first.stands) refl
 
-      pub at_application : head_in (drop 0 s) ≡ Application
+      pub at_application : head_in (drop 0 s) ≡ Some Application
           → Works (applied cap s u) out store (Refused NotAbs) out store
       at_application h = no_body (is-application first.term h first.stands).same refl
 
-      pub at_nothing : head_in (drop 0 s) ≡ Nothing → Works (applied cap s u) out store (Refused NotAbs) out store
-      at_nothing h = absurd (is_something first.term h first.stands)
-
       -- THE TWO ARE LOADED, and the contraction answers
-      module _ (lent : Lent cap out store) (h : head_in (drop 0 s) ≡ Abstraction) where
+      module _ (lent : Lent cap out store) (h : head_in (drop 0 s) ≡ Some Abstraction) where
         pub body_asks : Loadable s 1 store 0
         body_asks = loading.body_asks h (input_asks lent first refl (omega arith))
 

@@ -16,7 +16,7 @@ use nodes::lending::{Granted, grant};
 use nodes::reading::read_whole;
 use substitution::put_in;
 use substitution::weighing::weigh;
-use term::{Checked, Head, Refusal};
+use term::{Head, Refusal};
 
 // The bytes that the contraction takes in the output, or why it has none.
 #[derive(Clone, Copy)]
@@ -60,7 +60,8 @@ fn contract_whole(cap: usize, s: &[u8], u: &[u8], out: &mut [u8], store: &mut [u
     ensures { Works (applied cap s.now u.now)
         out.old store.old result out.new store.new }
 {
-    match term::head_at(s, 0) {
+    // a term stands here
+    match term::head_at(s, 0).unwrap() {
         Head::Abstraction => {
             let body = nodes::load(s, 1, store, 0);
             let top = body.used;
@@ -70,8 +71,6 @@ fn contract_whole(cap: usize, s: &[u8], u: &[u8], out: &mut [u8], store: &mut [u
         }
         Head::Variable(_) => Applied::Refused(Refusal::NotAbs),
         Head::Application => Applied::Refused(Refusal::NotAbs),
-        // not met: a term stands here
-        Head::Nothing => Applied::Refused(Refusal::NotAbs),
     }
 }
 
@@ -82,10 +81,10 @@ fn check_first(cap: usize, s: &[u8], u: &[u8], out: &mut [u8], store: &mut [u64]
         out.old store.old result out.new store.new }
 {
     match term::check(cap as u64, s) {
-        Checked::Refused(why) => Applied::Refused(why),
-        Checked::Whole(_) => match term::check(cap as u64, u) {
-            Checked::Refused(why) => Applied::Refused(why),
-            Checked::Whole(_) => contract_whole(cap, s, u, out, store),
+        Err(why) => Applied::Refused(why),
+        Ok(_) => match term::check(cap as u64, u) {
+            Err(why) => Applied::Refused(why),
+            Ok(_) => contract_whole(cap, s, u, out, store),
         },
     }
 }

@@ -16,7 +16,7 @@ use nodes::lending::{Granted, grant};
 use nodes::reading::read_whole;
 use nodes::runs::Run;
 use orders::Order;
-use term::{Checked, Refusal};
+use term::Refusal;
 
 // The steps of the term that the last of so many nodes is, and the bytes of the term that they reach.
 fn step_on(
@@ -59,8 +59,8 @@ fn check_first(
         out.old store.old result out.new store.new }
 {
     match term::check(cap as u64, s) {
-        Checked::Refused(why) => Run::Refused { steps: 0, why },
-        Checked::Whole(_) => {
+        Err(why) => Run::Refused { steps: 0, why },
+        Ok(_) => {
             let read = nodes::load(s, 0, store, 0);
             step_on(cap, order, limit, out, store, read.used)
         }

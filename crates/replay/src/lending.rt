@@ -40,37 +40,26 @@ const FILLED: u8 = 126;
 const FILLED_NUMBER: u64 = 7;
 
 pub(crate) fn fill(out: &mut [u8]) {
-    for i in 0..out.len() {
-        out[i] = FILLED;
-    }
+    out.fill(FILLED);
 }
 
 pub(crate) fn fill_numbers(room: &mut [u64]) {
-    for i in 0..room.len() {
-        room[i] = FILLED_NUMBER;
-    }
+    room.fill(FILLED_NUMBER);
 }
 
 fn is_kept(out: &[u8], from: usize) -> bool {
-    for i in from..out.len() {
-        if out[i] != FILLED {
-            return false;
-        }
-    }
-    true
+    out.iter().skip(from).all(|&b| b == FILLED)
 }
 
 // Whether all numbers between two places are this one.
 fn are(room: &[u64], from: usize, to: usize, n: u64) -> bool {
-    for i in from..to {
-        if room.len() <= i {
-            return false;
-        }
-        if room[i] != n {
-            return false;
-        }
+    if to <= from {
+        return true;
     }
-    true
+    if room.len() < to {
+        return false;
+    }
+    room[from..to].iter().all(|&number| number == n)
 }
 
 // The bytes of output that are the answer.

@@ -24,14 +24,12 @@ pub(crate) fn part(buf: &[u8], from: usize, to: usize) -> &[u8] {
 
 // Where the word that begins at a place ends: at a mark, or with the bytes.
 pub(crate) fn word_end(words: &[u8], from: usize, mark: u8) -> usize {
-    let mut at = from;
-    while at < words.len() {
+    for at in from..words.len() {
         if words[at] == mark {
             return at;
         }
-        at += 1;
     }
-    at
+    from.max(words.len())
 }
 
 // The place behind the mark that ends a word, or the end of the bytes.
@@ -85,9 +83,8 @@ pub(crate) fn digit(b: u8) -> u64 {
 // The number that a word's digits say; 0 for a word that says no 64-bit number.
 pub(crate) fn decimal(digits: &[u8]) -> u64 {
     let mut value: u64 = 0;
-    let mut at: usize = 0;
-    while at < digits.len() {
-        let last = digit(digits[at]);
+    for &b in digits {
+        let last = digit(b);
         if 9 < last {
             return 0;
         }
@@ -95,7 +92,6 @@ pub(crate) fn decimal(digits: &[u8]) -> u64 {
             return 0;
         }
         value = value * 10 + last;
-        at += 1;
     }
     value
 }
@@ -103,9 +99,8 @@ pub(crate) fn decimal(digits: &[u8]) -> u64 {
 // The same of hex digits.
 pub(crate) fn hex(digits: &[u8]) -> u64 {
     let mut value: u64 = 0;
-    let mut at: usize = 0;
-    while at < digits.len() {
-        let last = digit(digits[at]);
+    for &b in digits {
+        let last = digit(b);
         if 15 < last {
             return 0;
         }
@@ -113,7 +108,6 @@ pub(crate) fn hex(digits: &[u8]) -> u64 {
             return 0;
         }
         value = value * 16 + last;
-        at += 1;
     }
     value
 }

@@ -25,18 +25,12 @@ fn tell_answer(rt: &impl Print, answer: Answer) -> io::Result<()> {
     tell_number(rt, b" ", answer.code)
 }
 
-fn wide(b: u8) -> u64
-    ensures { result ≤ 255 }
-{
-    b as u64
-}
-
 // The Adler-32 checksum of bytes.
 fn checksum(bytes: &[u8]) -> u64 {
     let mut low: u64 = 1;
     let mut high: u64 = 0;
-    for i in 0..bytes.len() {
-        low = (low + wide(bytes[i])) % 65521;
+    for &b in bytes {
+        low = (low + u64::from(b)) % 65521;
         high = (high + low) % 65521;
     }
     high * 65536 + low
@@ -57,7 +51,10 @@ fn tell_mark(rt: &impl Print, mark: u8) -> io::Result<()> {
 fn tell_term(rt: &impl Print, s: &[u8]) -> io::Result<()> {
     let mut at: usize = 0;
     while at < s.len() {
-        match term::head_at(s, at) {
+        let Some(head) = term::head_at(s, at) else {
+            return Ok(());
+        };
+        match head {
             Head::Variable(index) => {
                 tell_index(rt, index)?;
                 at += 9;
@@ -69,9 +66,6 @@ fn tell_term(rt: &impl Print, s: &[u8]) -> io::Result<()> {
             Head::Application => {
                 tell_mark(rt, b'@')?;
                 at += 1;
-            }
-            Head::Nothing => {
-                return Ok(());
             }
         }
     }

@@ -20,10 +20,6 @@ pub(crate) struct Inputs {
     pub(crate) second_end: usize,
 }
 
-fn larger(a: usize, b: usize) -> usize {
-    if a < b { b } else { a }
-}
-
 const VARIABLE_BYTES: usize = 9;
 
 // A variable, if there is room for its bytes.
@@ -102,7 +98,7 @@ fn code(work: &mut [u8], from: usize, end: usize, to: usize) -> Place {
 // follows another place.
 pub(crate) fn read(work: &mut [u8], length: usize, from: usize, end: usize, next: usize) -> Inputs {
     let first = code(work, from, end, length);
-    let second = code(work, next, length, larger(first.end, length));
+    let second = code(work, next, length, first.end.max(length));
     Inputs {
         first: first.from,
         first_end: first.end,

@@ -1,4 +1,6 @@
 -- Where a term's bytes stand: the head that is read there, where the parts stand, and how far the bytes reach.
+use Rattle.std.specs.Prelude.{Option, Some, None}
+use Rattle.std.specs.Option.{IsSome}
 use Prim.Native.Nat.{ℕ, ◌+◌, ◌≤◌}
 use mathlib.Core.Path.{◌≡◌, refl, sym, ap, ◌∙◌}
 use mathlib.Core.List.{List, ◌++◌, append_assoc}
@@ -14,17 +16,17 @@ use Rattle.calculus.proofs.Sizes.{size, size_positive, length-encode}
 use Rattle.term.specs.Heads.{head_of_kind, head_in}
 use Rattle.term.specs.Surveys.{Stands, Begins}
 use Rattle.term.specs.declared.Head.{Head}
-use Rattle.term.specs.declared.Head.TheVariants.{Variable, Abstraction, Application, Nothing}
+use Rattle.term.specs.declared.Head.TheVariants.{Variable, Abstraction, Application}
 
-abbrev pub head_of_term : Term → Head
-head_of_term (var i) = Variable i
-head_of_term (lam b) = Abstraction
-head_of_term (app l r) = Application
+abbrev pub head_of_term : Term → Option Head
+head_of_term (var i) = Some (Variable i)
+head_of_term (lam b) = Some Abstraction
+head_of_term (app l r) = Some Application
 
 head_of_encoded : (t : Term) (rest : List ℕ) → head_in (encode t ++ rest) ≡ head_of_term t
 unfolding head_in head_of_kind encode digits from_digits
 head_of_encoded (var i) rest =
-    rw (le-leb 8 (length (digits 7 i ++ rest)) (omega arith)) (ap Variable (number_digits 7 i))
+    rw (le-leb 8 (length (digits 7 i ++ rest)) (omega arith)) (ap (λ i. Some (Variable i)) (number_digits 7 i))
 head_of_encoded (lam b) rest = refl
 head_of_encoded (app l r) rest = refl
 
@@ -64,7 +66,7 @@ pub term-begins : {s : List ℕ} {at : ℕ} {t : Term} → Stands s at t → Beg
 term-begins {t = t} st = record { term = t; stands = st; inside = omega (arith, size-within st, size_positive t) }
 
 -- WHAT A HEAD SAYS of the term that stands there
-pub is-variable : {s : List ℕ} {at i : ℕ} (t : Term) → head_in (drop at s) ≡ Variable i → Stands s at t → t ≡ var i
+pub is-variable : {s : List ℕ} {at i : ℕ} (t : Term) → head_in (drop at s) ≡ Some (Variable i) → Stands s at t → t ≡ var i
 is-variable (var j) h st = cc (head_at st)
 is-variable (lam b) h st = let never : ◌≡◌ {A = ℕ} 0 1 = cc (head_at st) in absurd (omega arith)
 is-variable (app l r) h st = let never : ◌≡◌ {A = ℕ} 0 1 = cc (head_at st) in absurd (omega arith)
@@ -74,7 +76,7 @@ pub record IsAbstraction (s : List ℕ) (at : ℕ) (t : Term) : Type 0 where
   pub same : t ≡ lam body
   pub body_at : Stands s (at + 1) body
 
-pub is-abstraction : {s : List ℕ} {at : ℕ} (t : Term) → head_in (drop at s) ≡ Abstraction → Stands s at t
+pub is-abstraction : {s : List ℕ} {at : ℕ} (t : Term) → head_in (drop at s) ≡ Some Abstraction → Stands s at t
     → IsAbstraction s at t
 is-abstraction (var i) h st = let never : ◌≡◌ {A = ℕ} 0 1 = cc (head_at st) in absurd (omega arith)
 is-abstraction (lam b) h st = record { body = b; same = refl; body_at = body-stands st }
@@ -87,14 +89,20 @@ pub record IsApplication (s : List ℕ) (at : ℕ) (t : Term) : Type 0 where
   pub left_at : Stands s (at + 1) left
   pub right_at : Stands s (at + 1 + size left) right
 
-pub is-application : {s : List ℕ} {at : ℕ} (t : Term) → head_in (drop at s) ≡ Application → Stands s at t
+pub is-application : {s : List ℕ} {at : ℕ} (t : Term) → head_in (drop at s) ≡ Some Application → Stands s at t
     → IsApplication s at t
 is-application (var i) h st = let never : ◌≡◌ {A = ℕ} 0 1 = cc (head_at st) in absurd (omega arith)
 is-application (lam b) h st = let never : ◌≡◌ {A = ℕ} 0 1 = cc (head_at st) in absurd (omega arith)
 is-application (app l r) h st =
     record { left = l; right = r; same = refl; left_at = left-stands st; right_at = right-stands st }
 
-pub is_something : {s : List ℕ} {at : ℕ} (t : Term) → head_in (drop at s) ≡ Nothing → Stands s at t → ⊥
+pub is_something : {s : List ℕ} {at : ℕ} (t : Term) → head_in (drop at s) ≡ None → Stands s at t → ⊥
 is_something (var i) h st = let never : ◌≡◌ {A = ℕ} 0 1 = cc (head_at st) in omega arith
 is_something (lam b) h st = let never : ◌≡◌ {A = ℕ} 0 1 = cc (head_at st) in omega arith
 is_something (app l r) h st = let never : ◌≡◌ {A = ℕ} 0 1 = cc (head_at st) in omega arith
+
+-- a head stands where a term begins
+pub head_stands : {s : List ℕ} {at : ℕ} {t : Term} → Stands s at t → (o : Option Head) → o ≡ head_in (drop at s)
+    → IsSome o
+head_stands {t = t} st None e = absurd (is_something t (sym e) st)
+head_stands st (Some h) e = refl

@@ -6,15 +6,15 @@ use lib.ListN.{drop}
 use Rattle.calculus.specs.Refusal as calculus
 use Rattle.calculus.specs.Refusal.{Answer, given, refused}
 use Rattle.term.specs.Heads.{head_in}
-use Rattle.term.specs.Answers.{refusal_of, check_told, check_of}
+use Rattle.term.specs.Answers.{refusal_of, told, check_of}
 use Rattle.term.specs.declared.Head.{Head}
 use Rattle.term.specs.declared.Refusal.{Refusal}
 use Rattle.term.specs.declared.Refusal.TheVariants.{OutsideBounds, TooLittleRoom, TextTooLong, OutsideDomain}
 use Rattle.term.specs.declared.Refusal.TheVariants.{InvalidCharacter, UndefinedFreeVariable, TooHigh}
 use Rattle.term.specs.declared.Refusal.TheVariants.{EmptyExpression, TooManyNodes, NotATerm, NotAbs}
 use Rattle.term.specs.declared.Refusal.TheVariants.{IndexTooGreat, OutputTooShort}
-use Rattle.term.specs.declared.Checked.{Checked}
-use Rattle.term.specs.declared.Checked.TheVariants.{Whole, Refused}
+use Rattle.std.specs.Prelude.{Option, Result, Ok, Err}
+use Rattle.term.specs.declared.Facts.{Facts}
 
 -- what can be told back tells which it is
 pub one_by : {A B : Type 0} (to : A → B) (from : B → A) → ((x : A) → from (to x) ≡ x) → {x y : A} {b : B}
@@ -57,15 +57,22 @@ abbrev pub answer-from : {A R : Type 0} → (A → R) → (Refusal → R) → An
 answer-from give refuse (given a) = give a
 answer-from give refuse (refused why) = refuse (refusal-from why)
 
-checked_back : (r : Checked) → answer-from Whole Refused (check_told r) ≡ r
-unfolding check_told
-checked_back (Whole facts) = refl
-checked_back (Refused why) = ap Refused (refusal_back why)
+-- for the answers of any function
+abbrev pub result_from : {A : Type 0} → Answer A → Result A Refusal
+result_from (given a) = Ok a
+result_from (refused why) = Err (refusal-from why)
 
-pub one_check : (cap : ℕ) (s : List ℕ) {r q : Checked} → check_told r ≡ check_of cap s
-    → check_told q ≡ check_of cap s
+pub told_back : {A : Type 0} (r : Result A Refusal) → result_from (told r) ≡ r
+told_back (Ok a) = refl
+told_back (Err why) = ap Err (refusal_back why)
+
+pub one_told : {A : Type 0} {a : Answer A} {r q : Result A Refusal} → told r ≡ a → told q ≡ a → r ≡ q
+one_told e k = one_by told result_from told_back e k
+
+pub one_check : (cap : ℕ) (s : List ℕ) {r q : Result Facts Refusal} → told r ≡ check_of cap s
+    → told q ≡ check_of cap s
     → r ≡ q
-one_check cap s e k = one_by check_told (answer-from Whole Refused) checked_back e k
+one_check cap s e k = one_told e k
 
-pub one_head : (s : List ℕ) (at : ℕ) {r q : Head} → r ≡ head_in (drop at s) → q ≡ head_in (drop at s) → r ≡ q
+pub one_head : (s : List ℕ) (at : ℕ) {r q : Option Head} → r ≡ head_in (drop at s) → q ≡ head_in (drop at s) → r ≡ q
 one_head s at e k = e ∙ sym k

@@ -9,20 +9,20 @@ ghost use Rattle.calculus.specs.Refusal.{refusal_number};
 ghost use Rattle.calculus.specs.Bytes.{decode};
 ghost use Rattle.term.specs.Heads.{head_in};
 ghost use Rattle.term.specs.FactsOf.{facts_of};
-ghost use Rattle.term.specs.Surveys.{Scans, Begins, Surveys, facts_under, facts_beside, judged};
-ghost use Rattle.term.specs.Answers.{refusal_of, check_told, check_of};
+ghost use Rattle.term.specs.Surveys.{Scans, Begins, Surveys, facts_under, facts_beside};
+ghost use Rattle.term.specs.Answers.{refusal_of, told, check_of};
 
 use calculus::MOST_HEIGHT;
 
 // The two notations of text.
-#[derive(Clone, Copy)]
+#[derive(Clone, Copy, Debug, PartialEq, Eq)]
 pub enum Notation {
     DeBruijn,
     Classic,
 }
 
 // The thirteen refusals of document 01, which all crates share.
-#[derive(Clone, Copy)]
+#[derive(Clone, Copy, Debug, PartialEq, Eq)]
 pub enum Refusal {
     OutsideBounds,
     TooLittleRoom,
@@ -60,19 +60,12 @@ pub fn refusal_number(why: Refusal) -> u64
     }
 }
 
-// What stands at an offset: a variable with its index, another node, or no node.
-#[derive(Clone, Copy)]
+// What a term begins with: a variable with its index, or another node.
+#[derive(Clone, Copy, Debug, PartialEq, Eq)]
 pub enum Head {
     Variable(u64),
     Abstraction,
     Application,
-    Nothing,
-}
-
-fn wide(b: u8) -> u64
-    ensures { result ≡ b }
-{
-    b as u64
 }
 
 // The eight bytes at an offset as a number, low byte first.
@@ -80,79 +73,58 @@ pub fn index_at(s: &[u8], at: usize) -> u64
     requires { at + 8 ≤ length s.now }
     ensures { result ≡ from_digits 256 (take 8 (drop at s.now)) }
 {
-    let mut value = 0;
-    let mut place = 8;
-    while 0 < place {
-        place -= 1;
-        value = value * 256 + wide(s[at + place]);
-    }
-    value
+    let mut bytes = [0; 8];
+    bytes.copy_from_slice(&s[at..at + 8]);
+    u64::from_le_bytes(bytes)
 }
 
-#[tactic(auto, using(crate::proofs::Heads::told))]
-pub fn head_at(s: &[u8], at: usize) -> Head
+// What stands at an offset: none where the bytes end, where the byte is no kind, and where a variable is cut short.
+pub fn head_at(s: &[u8], at: usize) -> Option<Head>
     ensures { result ≡ head_in (drop at s.now) }
 {
     if s.len() <= at {
-        return Head::Nothing;
+        return None;
     }
-    let kind = s[at];
-    if kind == 2 {
-        return Head::Abstraction;
+    let cut = s.len() - at < 9;
+    match s[at] {
+        1 if cut => None,
+        1 => Some(Head::Variable(index_at(s, at + 1))),
+        2 => Some(Head::Abstraction),
+        3 => Some(Head::Application),
+        _ => None,
     }
-    if kind == 3 {
-        return Head::Application;
-    }
-    if kind != 1 {
-        return Head::Nothing;
-    }
-    if s.len() - at < 9 {
-        return Head::Nothing;
-    }
-    Head::Variable(index_at(s, at + 1))
-}
-
-// Whether the bytes are one whole term, or where they are not.
-#[derive(Clone, Copy)]
-enum Scan {
-    Whole,
-    Broken(usize),
 }
 
 // One loop that counts the terms still owed: it takes no stack, however deep the bytes nest.
-fn scan_all(s: &[u8]) -> Scan
+fn scan_all(s: &[u8]) -> Result<(), usize>
     ensures { Scans (decode s.now) result }
 {
     let mut at: usize = 0;
     let mut owed: usize = 1;
     while 0 < owed {
         match head_at(s, at) {
-            Head::Variable(_) => {
+            Some(Head::Variable(_)) => {
                 at += 9;
                 owed -= 1;
             }
-            Head::Abstraction => {
+            Some(Head::Abstraction) => {
                 at += 1;
             }
-            Head::Application => {
+            Some(Head::Application) => {
                 at += 1;
                 owed += 1;
             }
-            Head::Nothing => {
-                return Scan::Broken(at);
+            None => {
+                return Err(at);
             }
         }
     }
-    if at == s.len() {
-        Scan::Whole
-    } else {
-        Scan::Broken(at)
-    }
+    if at == s.len() { Ok(()) } else { Err(at) }
 }
 
 // All that the queries ask of a term under some abstractions, found out by one walk: its nodes, its height, the most
 // abstractions on a path, whether some index is 0 or free, and how far indices reach beyond their depth.
-#[derive(Clone, Copy)]
+#[derive(Clone, Copy, Debug, PartialEq, Eq)]
 pub struct Facts {
     pub nodes: u64,
     pub height: u64,
@@ -161,37 +133,30 @@ pub struct Facts {
     pub reach: u64,
 }
 
-// The facts of a term and the offset after it, or that it is higher than the room.
-#[derive(Clone, Copy)]
-enum Survey {
-    Within(Facts, usize),
-    Over,
-}
-
 pub fn larger(a: u64, b: u64) -> u64
     ensures { result ≡ max a b }
 {
-    if a < b { b } else { a }
+    a.max(b)
 }
 
 // Whether an index under so many abstractions is 0 or free.
 fn is_free(index: u64, depth: u64) -> bool
     ensures { result ≡ not (between 1 depth index) }
 {
-    if index < 1 { true } else { depth < index }
+    index < 1 || depth < index
 }
 
 pub fn either(a: bool, b: bool) -> bool
     ensures { result ≡ a || b }
 {
-    if a { true } else { b }
+    a || b
 }
 
 // The index less the depth, floored at 0.
 fn above(index: u64, depth: u64) -> u64
     ensures { result ≡ index - depth }
 {
-    if depth < index { index - depth } else { 0 }
+    index.saturating_sub(depth)
 }
 
 #[tactic(auto, unfolding(crate::specs::FactsOf::facts_of))]
@@ -234,69 +199,42 @@ fn of_application(left: Facts, right: Facts) -> Facts
     }
 }
 
-// The room falls at each call, so that calls nest no deeper than it.
-#[tactic(auto, using(crate::proofs::Surveying::walks))]
-fn survey_at(s: &[u8], at: usize, depth: u64, room: u64) -> Survey
+// The facts of the term at an offset and the offset after it, or none where it is higher than the room. The room falls
+// at each call, so that calls nest no deeper than it.
+fn survey_at(s: &[u8], at: usize, depth: u64, room: u64) -> Option<(Facts, usize)>
     requires room_bound { depth + room ≤ most_height }
     requires begins { Begins s.now at }
     ensures { Surveys s.now at depth room result }
 {
     if room == 0 {
-        return Survey::Over;
+        return None;
     }
-    match head_at(s, at) {
-        Head::Variable(index) => Survey::Within(of_variable(index, depth), at + 9),
+    match head_at(s, at)? {
+        Head::Variable(index) => Some((of_variable(index, depth), at + 9)),
         Head::Abstraction => {
-            let Survey::Within(body, next) = survey_at(s, at + 1, depth + 1, room - 1) else {
-                return Survey::Over;
-            };
-            Survey::Within(of_abstraction(body), next)
+            let (body, next) = survey_at(s, at + 1, depth + 1, room - 1)?;
+            Some((of_abstraction(body), next))
         }
         Head::Application => {
-            let Survey::Within(left, mid) = survey_at(s, at + 1, depth, room - 1) else {
-                return Survey::Over;
-            };
-            let Survey::Within(right, next) = survey_at(s, mid, depth, room - 1) else {
-                return Survey::Over;
-            };
-            Survey::Within(of_application(left, right), next)
-        }
-        // not met: a term begins here
-        Head::Nothing => Survey::Over,
-    }
-}
-
-// What a check finds: the facts of the whole term, or the first refusal that holds.
-#[derive(Clone, Copy)]
-pub enum Checked {
-    Whole(Facts),
-    Refused(Refusal),
-}
-
-// Refusal 7, then 9.
-#[tactic(auto, unfolding(crate::specs::Answers::check_told))]
-fn judge(cap: u64, found: Survey) -> Checked
-    ensures { check_told result ≡ judged cap found }
-{
-    match found {
-        Survey::Over => Checked::Refused(Refusal::TooHigh),
-        Survey::Within(facts, _) => {
-            if facts.nodes <= cap {
-                Checked::Whole(facts)
-            } else {
-                Checked::Refused(Refusal::TooManyNodes)
-            }
+            let (left, middle) = survey_at(s, at + 1, depth, room - 1)?;
+            let (right, next) = survey_at(s, middle, depth, room - 1)?;
+            Some((of_application(left, right), next))
         }
     }
 }
 
-// Refusal 10, then 7, then 9 against a cap, which may be any number.
-#[tactic(auto, using(crate::proofs::Checking::checks))]
-pub fn check(cap: u64, s: &[u8]) -> Checked
-    ensures { check_told result ≡ check_of cap s.now }
+// Refusal 10, then 7, then 9 against a cap, which may be any number; or the facts of the whole term.
+pub fn check(cap: u64, s: &[u8]) -> Result<Facts, Refusal>
+    ensures { told result ≡ check_of cap s.now }
 {
-    match scan_all(s) {
-        Scan::Broken(at) => Checked::Refused(Refusal::NotATerm(at)),
-        Scan::Whole => judge(cap, survey_at(s, 0, 0, MOST_HEIGHT)),
+    if let Err(at) = scan_all(s) {
+        return Err(Refusal::NotATerm(at));
     }
+    let Some((facts, _)) = survey_at(s, 0, 0, MOST_HEIGHT) else {
+        return Err(Refusal::TooHigh);
+    };
+    if cap < facts.nodes {
+        return Err(Refusal::TooManyNodes);
+    }
+    Ok(facts)
 }

@@ -7,7 +7,7 @@ mod Telling
 mod DeBruijnWords
 mod Indices
 mod ClassicWords
-mod SameNames
+pub mod SameNames
 mod Domains
 mod Scanning
 mod Refusing

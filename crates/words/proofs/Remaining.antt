@@ -14,11 +14,11 @@ use Rattle.calculus.specs.Characters.{sign, in_domain, width, joined, spelled, c
 use Rattle.words.specs.Places.{Clean, remains, char_of, bytes_of, name_of}
 
 -- CE AND BB: a byte but CE is a character by itself
-joined_byte : (b : ℕ) → (b ≡ 0xCE → ⊥) → (cs : List ℕ) → joined b cs ≡ b ∷ cs
+pub joined_byte : (b : ℕ) → (b ≡ 0xCE → ⊥) → (cs : List ℕ) → joined b cs ≡ b ∷ cs
 joined_byte b h [] = refl
 joined_byte b h (c ∷ cs) = rw (ne_eqb b 0xCE h)
 
-joined-pair : (cs : List ℕ) → joined 0xCE (joined 0xBB cs) ≡ sign ∷ cs
+pub joined-pair : (cs : List ℕ) → joined 0xCE (joined 0xBB cs) ≡ sign ∷ cs
 joined-pair [] = refl
 joined-pair (c ∷ cs) = refl
 

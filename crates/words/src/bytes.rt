@@ -37,40 +37,19 @@ pub(crate) enum Run {
 pub(crate) fn is_white(b: u8) -> bool
     ensures { result ≡ white b }
 {
-    if b' ' < b {
-        return false;
-    }
-    if b == b' ' {
-        return true;
-    }
-    if b == b'\t' {
-        return true;
-    }
-    if b == b'\n' {
-        return true;
-    }
-    b == b'\r'
+    matches!(b, b' ' | b'\t' | b'\n' | b'\r')
 }
 
 pub(crate) fn is_letter(b: u8) -> bool
     ensures { result ≡ classic.is_letter b }
 {
-    if b < 65 {
-        return false;
-    }
-    if b <= 90 {
-        return true;
-    }
-    if b < 97 {
-        return false;
-    }
-    b <= 122
+    b.is_ascii_alphabetic()
 }
 
 pub(crate) fn is_figure(b: u8) -> bool
     ensures { result ≡ classic.is_figure b }
 {
-    if b < 48 { false } else { b <= 57 }
+    b.is_ascii_digit()
 }
 
 // Whether a run may hold the character that begins with a byte; CE begins the sign.

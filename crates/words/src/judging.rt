@@ -22,26 +22,24 @@ pub(crate) fn scan_domain(text: &[u8]) -> Domain
     requires { length text.now ≤ most_text }
     ensures { Scans text.now result }
 {
-    let mut at: usize = 0;
-    while at < text.len() {
-        let b = text[at];
-        if b == SIGN_FIRST {
-            let second = at + 1;
-            if text.len() <= second {
-                return Domain::Outside(at);
+    let mut rest = text;
+    loop {
+        match rest {
+            [] => return Domain::Inside,
+            [SIGN_FIRST, after @ ..] => {
+                let [SIGN_SECOND, further @ ..] = after else {
+                    return Domain::Outside(text.len() - rest.len());
+                };
+                rest = further;
             }
-            if text[second] != SIGN_SECOND {
-                return Domain::Outside(at);
+            [b, after @ ..] => {
+                if !is_plain(*b) {
+                    return Domain::Outside(text.len() - rest.len());
+                }
+                rest = after;
             }
-            at += 2;
-        } else {
-            if !is_plain(b) {
-                return Domain::Outside(at);
-            }
-            at += 1;
         }
     }
-    Domain::Inside
 }
 
 // 5 at a place: its number in characters, and the code point there.

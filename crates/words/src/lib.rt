@@ -137,18 +137,5 @@ pub fn same_name(text: &[u8], x: Name, y: Name) -> bool
     requires { Clean text.now × Inside text.now x × Inside text.now y }
     ensures { result ≡ same_text (name_of text.now x) (name_of text.now y) }
 {
-    let a = x.from;
-    let b = y.from;
-    let length = x.to - a;
-    if y.to - b != length {
-        return false;
-    }
-    let mut i: usize = 0;
-    while i < length {
-        if text[a + i] != text[b + i] {
-            return false;
-        }
-        i += 1;
-    }
-    true
+    text[x.from..x.to] == text[y.from..y.to]
 }

@@ -10,9 +10,9 @@ use Rattle.engine.proofs.run_all.Given as goal
 
 abbrev pub invariant-loop-order : goal.invariant-loop-order
 invariant-loop-order l =
-    (t : Term) → Rooted t l.cap (standing (l.initial.used - 1) l.initial.used l.initial.budget l.initial.spare) l.initial.store → l.initial.used ≡ nodes t
-    → Compact (order_of l.order) t l.cap (standing (l.initial.used - 1) l.initial.used l.initial.budget l.initial.spare)
-    (standing (l.used - 1) l.used l.budget l.spare) l.initial.store l.store
+    (t : Term) → Rooted t l.cap (standing (l.initial.work.used - 1) l.initial.work) l.initial.store → l.initial.work.used ≡ nodes t
+    → Compact (order_of l.order) t l.cap (standing (l.initial.work.used - 1) l.initial.work)
+    (standing (l.work.used - 1) l.work) l.initial.store l.store
 
 abbrev pub decreases-loop-order : goal.decreases-loop-order
-decreases-loop-order l = l.budget
+decreases-loop-order l = l.work.budget

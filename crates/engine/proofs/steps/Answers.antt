@@ -1,7 +1,5 @@
 -- `engine::steps` meets its contract: each reason to stop is an end of a run.
-use mathlib.Core.Path.{sym, ◌∙◌}
-use Rattle.engine.proofs.Ending.{run_all_asks, budget-left, at_rest, at_limit, at_height, at_nodes}
-use Rattle.engine.proofs.Ending.{at_index}
+use Rattle.engine.proofs.Ending.{run_all_asks, budget-left, at_rest, at_limit, at_height, at_nodes, at_index, no_end}
 use Rattle.engine.proofs.steps.Goals as goal
 
 pub run_all-end-requires : goal.run_all-end-requires
@@ -12,30 +10,20 @@ pub overflow_sub-steps : goal.overflow_sub-steps
 overflow_sub-steps c =
     budget-left c.requires.1 c.run_all-end.ensures
 
-pub returns-then-stop-eq-RESTED : goal.returns-then-stop-eq-RESTED
-returns-then-stop-eq-RESTED c =
-    λ t can.
-    rw c.left_of-node.ensures (at_rest can c.run_all-end.ensures
-    (sym c.right_of-stop.ensures ∙ c.if-stop-eq-RESTED.true))
+pub returns-in-Rested : goal.returns-in-Rested
+returns-in-Rested c = λ t can. at_rest can c.run_all-end.ensures c.in-Rested.is
 
-pub returns-then-stop-eq-SPENT : goal.returns-then-stop-eq-SPENT
-returns-then-stop-eq-SPENT c =
-    λ t can.
-    rw c.left_of-node.ensures (at_limit can c.run_all-end.ensures
-    (sym c.right_of-stop.ensures ∙ c.if-stop-eq-SPENT.true))
+pub returns-in-Spent : goal.returns-in-Spent
+returns-in-Spent c = λ t can. at_limit can c.run_all-end.ensures c.in-Spent.is
 
-pub returns-then-stop-eq-TOO_HIGH : goal.returns-then-stop-eq-TOO_HIGH
-returns-then-stop-eq-TOO_HIGH c =
-    λ t can. at_height can c.run_all-end.ensures (sym c.right_of-stop.ensures ∙ c.if-stop-eq-TOO_HIGH.true)
+pub returns-in-TooHigh : goal.returns-in-TooHigh
+returns-in-TooHigh c = λ t can. at_height can c.run_all-end.ensures c.in-TooHigh.is
 
-pub returns-then-stop-eq-TOO_MANY : goal.returns-then-stop-eq-TOO_MANY
-returns-then-stop-eq-TOO_MANY c =
-    λ t can. at_nodes can c.run_all-end.ensures (sym c.right_of-stop.ensures ∙ c.if-stop-eq-TOO_MANY.true)
+pub returns-in-TooManyNodes : goal.returns-in-TooManyNodes
+returns-in-TooManyNodes c = λ t can. at_nodes can c.run_all-end.ensures c.in-TooManyNodes.is
 
-pub returns : goal.returns
-returns c =
-    λ t can.
-    at_index can c.run_all-end.ensures (λ e. c.if-stop-eq-RESTED.false (c.right_of-stop.ensures ∙ e))
-    (λ e. c.if-stop-eq-SPENT.false (c.right_of-stop.ensures ∙ e)) (λ e. c.if-stop-eq-TOO_HIGH.false
-    (c.right_of-stop.ensures ∙ e))
-    (λ e. c.if-stop-eq-TOO_MANY.false (c.right_of-stop.ensures ∙ e))
+pub returns-in-IndexTooGreat : goal.returns-in-IndexTooGreat
+returns-in-IndexTooGreat c = λ t can. at_index can c.run_all-end.ensures c.in-IndexTooGreat.is
+
+pub unreachable-requires : goal.unreachable-requires
+unreachable-requires c = no_end c.requires.1 c.run_all-end.ensures c.in-Stepped.is

@@ -1,11 +1,13 @@
 -- `nodes::load` meets its contract: at each head it is a law of `Loading`. The offset grows at each call.
+use Rattle.std.specs.Prelude.{Some}
 use Prim.Native.Nat.{ℕ}
-use mathlib.Core.Path.{◌≡◌, sym, ◌∙◌}
+use mathlib.Core.Path.{◌≡◌, sym, ap, ◌∙◌}
 use native.Mathlib.Omega.{arith}
 use lib.ListN.{drop}
+use Rattle.term.proofs.Places.{head_stands}
 use Rattle.term.specs.Heads.{head_in}
 use Rattle.term.specs.declared.Head.TheVariants.{Variable, Abstraction, Application}
-use Rattle.nodes.proofs.Loading.{some-made, variable_asks, at_variable, at_nothing}
+use Rattle.nodes.proofs.Loading.{some-made, variable_asks, at_variable}
 use Rattle.nodes.proofs.Loading.{body_asks, abstraction_asks, at_abstraction}
 use Rattle.nodes.proofs.Loading.{left_asks, right_asks, application_asks, at_application}
 use Rattle.nodes.proofs.+load.Goals as goal
@@ -14,18 +16,18 @@ use Rattle.nodes.proofs.+load.Goals.{In-Abstraction, In-Application, In-Variable
 -- the head in each arm
 var-head : (t : ℕ) (c : In-Variable t)
     → let a = c.args in
-    head_in (drop a.at a.s.now) ≡ Variable c.in-Variable.index
-var-head t c = sym c.head_at.ensures ∙ c.in-Variable.is
+    head_in (drop a.at a.s.now) ≡ Some (Variable c.in-Variable.index)
+var-head t c = sym c.head_at.ensures ∙ c.unwrap.ensures ∙ ap Some c.in-Variable.is
 
 lam-head : (t : ℕ) (c : In-Abstraction t)
     → let a = c.args in
-    head_in (drop a.at a.s.now) ≡ Abstraction
-lam-head t c = sym c.head_at.ensures ∙ c.in-Abstraction.is
+    head_in (drop a.at a.s.now) ≡ Some Abstraction
+lam-head t c = sym c.head_at.ensures ∙ c.unwrap.ensures ∙ ap Some c.in-Abstraction.is
 
 app-head : (t : ℕ) (c : In-Application t)
     → let a = c.args in
-    head_in (drop a.at a.s.now) ≡ Application
-app-head t c = sym c.head_at.ensures ∙ c.in-Application.is
+    head_in (drop a.at a.s.now) ≡ Some Application
+app-head t c = sym c.head_at.ensures ∙ c.unwrap.ensures ∙ ap Some c.in-Application.is
 
 pub overflow_add-result : goal.overflow_add-result
 overflow_add-result t c =
@@ -98,6 +100,5 @@ returns-in-Application t c =
     at_application (app-head t (goal.at.returns-in-Application t c).In-Application) c.requires c.load-left.ensures c.load-right.ensures next
     same new
 
-pub returns-in-Nothing : goal.returns-in-Nothing
-returns-in-Nothing t c =
-    at_nothing (sym c.head_at.ensures ∙ c.in-Nothing.is) c.requires
+pub unwrap-requires : goal.unwrap-requires
+unwrap-requires t c = head_stands c.requires.stands _ c.head_at.ensures

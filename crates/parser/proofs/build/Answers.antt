@@ -9,12 +9,12 @@ sequence-requires c =
 
 pub save-requires : goal.save-requires
 save-requires c =
-    storable c.sequence.ensures _ _ _ c.in-On.is c.requires.0
+    storable c.sequence.ensures _ c.in-Ok.is c.requires.0
 
-pub returns-in-Stopped : goal.returns-in-Stopped
-returns-in-Stopped c =
-    works_stopped c.sequence.ensures _ _ c.in-Stopped.is
+pub returns-in-Err : goal.returns-in-Err
+returns-in-Err c =
+    works_stopped c.sequence.ensures _ _ c.in-Err.is
 
-pub returns-in-On : goal.returns-in-On
-returns-in-On c =
-    works_on c.sequence.ensures _ _ _ c.in-On.is c.save.ensures
+pub returns-in-Ok : goal.returns-in-Ok
+returns-in-Ok c =
+    works_on c.sequence.ensures _ c.in-Ok.is c.save.ensures

@@ -1,12 +1,13 @@
 -- `printer::write_part` meets its contract: at each head it is a law of `Walking`. The room falls at each call.
+use Rattle.std.specs.Prelude.{Some}
 use Prim.Native.Nat.{ℕ}
-use mathlib.Core.Path.{◌≡◌, sym, ◌∙◌}
+use mathlib.Core.Path.{◌≡◌, sym, ap, ◌∙◌}
 use native.Mathlib.Omega.{arith}
 use lib.ListN.{drop}
 use Rattle.term.specs.Heads.{head_in}
 use Rattle.term.specs.declared.Head.TheVariants.{Variable, Abstraction, Application}
 use Rattle.calculus.proofs.Putting.{puts-length}
-use Rattle.printer.proofs.Walking.{at_first, at_variable, at_abstraction, at_application, at_nothing}
+use Rattle.printer.proofs.Walking.{at_first, at_variable, at_abstraction, at_application, head-there}
 use Rattle.printer.proofs.Walking.{opened_by}
 use Rattle.printer.proofs.Walking.{VariableAsks, AbstractionAsks, ApplicationAsks, GapAsks}
 use Rattle.printer.proofs.Walking.{on_length, variable_asks, abstraction_asks, application_asks, left_asks}
@@ -16,16 +17,16 @@ use Rattle.printer.proofs.+write_part.Goals.{After-write_part-left, In-Abstracti
 
 -- the head in each arm, and what is asked there
 var-head : (t : ℕ) (c : In-Variable t)
-    → head_in (drop c.loop-index.at c.args.s.now) ≡ Variable c.in-Variable.index
-var-head t c = sym c.head_at.ensures ∙ c.in-Variable.is
+    → head_in (drop c.loop-index.at c.args.s.now) ≡ Some (Variable c.in-Variable.index)
+var-head t c = sym c.head_at.ensures ∙ c.unwrap.ensures ∙ ap Some c.in-Variable.is
 
 lam-head : (t : ℕ) (c : In-Abstraction t)
-    → head_in (drop c.loop-index.at c.args.s.now) ≡ Abstraction
-lam-head t c = sym c.head_at.ensures ∙ c.in-Abstraction.is
+    → head_in (drop c.loop-index.at c.args.s.now) ≡ Some Abstraction
+lam-head t c = sym c.head_at.ensures ∙ c.unwrap.ensures ∙ ap Some c.in-Abstraction.is
 
 app-head : (t : ℕ) (c : In-Application t)
-    → head_in (drop c.loop-index.at c.args.s.now) ≡ Application
-app-head t c = sym c.head_at.ensures ∙ c.in-Application.is
+    → head_in (drop c.loop-index.at c.args.s.now) ≡ Some Application
+app-head t c = sym c.head_at.ensures ∙ c.unwrap.ensures ∙ ap Some c.in-Application.is
 
 var-asks : (t : ℕ) (c : In-Variable t)
     → let a = c.args in
@@ -52,7 +53,7 @@ left-written : (t : ℕ) (c : After-write_part-left t)
     → let a = c.args in
     GapAsks a.style a.s.now c.loop-index.at c.write_part-left.result
 left-written t c =
-    let app-head : head_in (drop c.loop-index.at c.args.s.now) ≡ Application = sym c.head_at.ensures ∙ c.in-Application.is in
+    let app-head : head_in (drop c.loop-index.at c.args.s.now) ≡ Some Application = sym c.head_at.ensures ∙ c.unwrap.ensures ∙ ap Some c.in-Application.is in
     let asked = c.requires in
     let opened = c.put_if-opened-in-Application.ensures.reached in
     gap_asks c.loop-index.invariant asked (app-head) c.groups_application.ensures opened
@@ -154,10 +155,5 @@ loop-index-preserved t c =
     at_application c.loop-index.invariant (app-head t (goal.at.loop-index-preserved t c).In-Application) grouped c.put_if-opened-in-Application.ensures left
     c.put_gap-to.ensures
 
-pub shape_of-out-in-Nothing : goal.shape_of-out-in-Nothing
-shape_of-out-in-Nothing t c =
-    on_length c.loop-index.invariant c.requires
-
-pub returns-in-Nothing : goal.returns-in-Nothing
-returns-in-Nothing t c =
-    at_nothing c.loop-index.invariant (sym c.head_at.ensures ∙ c.in-Nothing.is)
+pub unwrap-requires : goal.unwrap-requires
+unwrap-requires t c = head-there c.loop-index.invariant c.requires _ c.head_at.ensures

@@ -1,43 +1,54 @@
-use Rattle.std.proofs.Common.{◌≡◌, Bool, true, not, sym, ap, ◌∙◌, arith}
+use Rattle.std.proofs.Common.{◌≡◌, Bool, true, not, sym, ap, ◌∙◌, arith, Option, Some}
+use Rattle.term.proofs.Places.{head_stands}
 use Rattle.term.proofs.Surveying.{body-begins, left-begins}
 use Rattle.term.specs.declared.Head.{Head}
 use Rattle.queries.specs.Comparing.{Decides}
 use Rattle.queries.proofs.Comparing.{decided_so, decided_not, differ_here, same-variable, same-abstraction}
-use Rattle.queries.proofs.Comparing.{left_differs, same-application, at_nothing}
+use Rattle.queries.proofs.Comparing.{left_differs, same-application}
 use Rattle.queries.proofs.Comparing.{body-low, left-low, right-low, right-begins}
 use Rattle.queries.proofs.+same_at.Goals as goal
 
 -- past the test the heads are the same
-past-test : {a b x h : Head} {r : Bool} → Decides (a ≡ b) r → r ≡ true → b ≡ x → a ≡ h → x ≡ h
-past-test found e is head = sym is ∙ sym (decided_so found (ap not e)) ∙ head
+past-test : {a b x : Head} {r : Bool} {o h : Option Head} → Decides (a ≡ b) r → r ≡ true → a ≡ x → o ≡ Some b → o ≡ h
+    → h ≡ Some x
+past-test found e is some head = sym head ∙ some ∙ ap Some (sym (decided_so found (ap not e)) ∙ is)
+
+heads-same : {a b : Head} → ◌≡◌ {A = Option Head} (Some a) (Some b) → a ≡ b
+heads-same e = cc
+
+pub unwrap-head-requires : goal.unwrap-head-requires
+unwrap-head-requires t c = head_stands c.requires.low.begins.stands _ c.head_at.ensures
+
+pub unwrap-other-requires : goal.unwrap-other-requires
+unwrap-other-requires t c = head_stands c.requires.begins.stands _ c.head_at-2.ensures
 
 pub returns-then-not-same_head : goal.returns-then-not-same_head
 returns-then-not-same_head t c =
     let not_same = decided_not c.same_head.ensures (ap not c.if-not-same_head.true) in
-    differ_here (λ e. not_same (c.head_at-head.ensures ∙ e ∙ sym c.head_at-other.ensures))
+    differ_here (λ e. not_same (heads-same (sym c.unwrap-head.ensures ∙ c.head_at.ensures ∙ e ∙ sym c.head_at-2.ensures ∙ c.unwrap-other.ensures)))
 
 pub same_at-requires : goal.same_at-requires
 same_at-requires t c =
-    let head = sym c.in-Abstraction.ensures in
-    let other = past-test c.same_head.ensures c.if-not-same_head.false c.head_at-other.ensures c.in-Abstraction.is in
+    let head = sym c.head_at.ensures ∙ c.unwrap-head.ensures ∙ ap Some c.in-Abstraction.is in
+    let other = past-test c.same_head.ensures c.if-not-same_head.false c.in-Abstraction.is c.unwrap-other.ensures c.head_at-2.ensures in
     (omega arith, (body-low c.requires.low head, body-begins other c.requires.begins))
 
 pub same_at-requires-in-Application : goal.same_at-requires-in-Application
 same_at-requires-in-Application t c =
-    let head = sym c.in-Application.ensures in
-    let other = past-test c.same_head.ensures c.if-not-same_head.false c.head_at-other.ensures c.in-Application.is in
+    let head = sym c.head_at.ensures ∙ c.unwrap-head.ensures ∙ ap Some c.in-Application.is in
+    let other = past-test c.same_head.ensures c.if-not-same_head.false c.in-Application.is c.unwrap-other.ensures c.head_at-2.ensures in
     (omega arith, (left-low c.requires.low head, left-begins other c.requires.begins))
 
 pub returns-in_default : goal.returns-in_default
 returns-in_default t c =
-    let head = sym c.in-Application.ensures in
-    let other = past-test c.same_head.ensures c.if-not-same_head.false c.head_at-other.ensures c.in-Application.is in
+    let head = sym c.head_at.ensures ∙ c.unwrap-head.ensures ∙ ap Some c.in-Application.is in
+    let other = past-test c.same_head.ensures c.if-not-same_head.false c.in-Application.is c.unwrap-other.ensures c.head_at-2.ensures in
     left_differs head other c.same_at-in-Application.ensures c.in_default.is
 
 pub same_at-requires-in-Application-2 : goal.same_at-requires-in-Application-2
 same_at-requires-in-Application-2 t c =
-    let head = sym c.in-Application.ensures in
-    let other = past-test c.same_head.ensures c.if-not-same_head.false c.head_at-other.ensures c.in-Application.is in
+    let head = sym c.head_at.ensures ∙ c.unwrap-head.ensures ∙ ap Some c.in-Application.is in
+    let other = past-test c.same_head.ensures c.if-not-same_head.false c.in-Application.is c.unwrap-other.ensures c.head_at-2.ensures in
     let left = c.same_at-in-Application.ensures in
     let low = c.requires.low in
     let begins = c.requires.begins in
@@ -46,18 +57,15 @@ same_at-requires-in-Application-2 t c =
 
 pub returns-in-Variable : goal.returns-in-Variable
 returns-in-Variable t c =
-    same-variable (sym c.in-Variable.ensures) (past-test c.same_head.ensures c.if-not-same_head.false c.head_at-other.ensures c.in-Variable.is)
+    same-variable (sym c.head_at.ensures ∙ c.unwrap-head.ensures ∙ ap Some c.in-Variable.is) (past-test c.same_head.ensures c.if-not-same_head.false c.in-Variable.is c.unwrap-other.ensures c.head_at-2.ensures)
 
 pub returns-in-Abstraction : goal.returns-in-Abstraction
 returns-in-Abstraction t c =
-    let other = past-test c.same_head.ensures c.if-not-same_head.false c.head_at-other.ensures c.in-Abstraction.is in
-    same-abstraction (sym c.in-Abstraction.ensures) other c.same_at.ensures
+    let other = past-test c.same_head.ensures c.if-not-same_head.false c.in-Abstraction.is c.unwrap-other.ensures c.head_at-2.ensures in
+    same-abstraction (sym c.head_at.ensures ∙ c.unwrap-head.ensures ∙ ap Some c.in-Abstraction.is) other c.same_at.ensures
 
 pub returns-in-Until : goal.returns-in-Until
 returns-in-Until t c =
-    let head = sym c.in-Application.ensures in
-    let other = past-test c.same_head.ensures c.if-not-same_head.false c.head_at-other.ensures c.in-Application.is in
+    let head = sym c.head_at.ensures ∙ c.unwrap-head.ensures ∙ ap Some c.in-Application.is in
+    let other = past-test c.same_head.ensures c.if-not-same_head.false c.in-Application.is c.unwrap-other.ensures c.head_at-2.ensures in
     same-application head other c.same_at-in-Application.ensures c.in-Until.is c.same_at-in-Application-2.ensures
-
-pub returns-in-Nothing : goal.returns-in-Nothing
-returns-in-Nothing t c = at_nothing (sym c.in-Nothing.ensures)

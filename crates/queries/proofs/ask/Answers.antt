@@ -17,14 +17,14 @@ number-asked Height s = refl
 number-asked MaxDepth s = refl
 number-asked MaxFreeIndex s = refl
 
-pub returns-in-Whole : goal.returns-in-Whole
+pub returns-in-Ok : goal.returns-in-Ok
 unfolding number_told
-returns-in-Whole c =
-    let whole = asked c.args.s.now c.check.ensures (picked c.args.query) c.in-Whole.is in
+returns-in-Ok c =
+    let whole = asked c.args.s.now c.check.ensures (picked c.args.query) c.in-Ok.is in
     ap given c.pick.ensures ∙ whole ∙ number-asked c.args.query c.args.s.now
 
-pub returns-in-Refused : goal.returns-in-Refused
+pub returns-in-Err : goal.returns-in-Err
 unfolding number_told
-returns-in-Refused c =
-    refused_alike c.args.s.now c.check.ensures (λ t. picked c.args.query (facts_of 0 t)) c.in-Refused.is
+returns-in-Err c =
+    refused_alike c.args.s.now c.check.ensures (λ t. picked c.args.query (facts_of 0 t)) c.in-Err.is
     ∙ number-asked c.args.query c.args.s.now

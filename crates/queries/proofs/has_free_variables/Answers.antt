@@ -5,10 +5,10 @@ use Rattle.queries.specs.Answers.{truth_told}
 use Rattle.queries.proofs.Asking.{asked, refused_alike}
 use Rattle.queries.proofs.has_free_variables.Goals as goal
 
-pub returns-in-Whole : goal.returns-in-Whole
+pub returns-in-Ok : goal.returns-in-Ok
 unfolding truth_told has_free_variables_of facts_of
-returns-in-Whole c = asked c.args.s.now c.check.ensures (λ f. f.free) c.in-Whole.is
+returns-in-Ok c = asked c.args.s.now c.check.ensures (λ f. f.free) c.in-Ok.is
 
-pub returns-in-Refused : goal.returns-in-Refused
+pub returns-in-Err : goal.returns-in-Err
 unfolding truth_told has_free_variables_of
-returns-in-Refused c = refused_alike c.args.s.now c.check.ensures has_free_variables c.in-Refused.is
+returns-in-Err c = refused_alike c.args.s.now c.check.ensures has_free_variables c.in-Err.is

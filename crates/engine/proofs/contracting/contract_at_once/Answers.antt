@@ -1,7 +1,7 @@
 -- `engine::contracting::contract_at_once` meets its contract: each return by a law of `AtOnce`.
 use native.Mathlib.Omega.{arith}
-use Rattle.engine.proofs.Told.{told_is}
-use Rattle.engine.proofs.Contractions.{put_asks, made-low}
+use mathlib.Core.Path.{refl}
+use Rattle.engine.proofs.Contractions.{put_asks}
 use Rattle.engine.proofs.AtOnce.{node-inside, made_high, made-many, made-here}
 use Rattle.engine.proofs.contracting.contract_at_once.Goals as goal
 
@@ -24,20 +24,16 @@ bounds-room-made c =
 pub returns-then-depth-height_of-gt-MOST_HEIGHT : goal.returns-then-depth-height_of-gt-MOST_HEIGHT
 returns-then-depth-height_of-gt-MOST_HEIGHT c b a sure =
     made_high sure c.put_in-made.ensures c.height_of.ensures c.if-depth-height_of-gt-MOST_HEIGHT.true
-    (told_is 0 7 c.pair.ensures (omega arith))
+    refl
 
 pub returns-then-most-size : goal.returns-then-most-size
 returns-then-most-size c b a sure =
     made-many sure c.put_in-made.ensures c.height_of.ensures c.if-depth-height_of-gt-MOST_HEIGHT.false
     c.nodes_of-size.ensures c.if-most-size.true
-    (told_is 0 9 c.pair-then-most-size.ensures (omega arith))
-
-pub pair-requires-2 : goal.pair-requires-2
-pair-requires-2 c =
-    (made-low c.requires.2 c.put_in-made.ensures, omega arith)
+    refl
 
 pub returns : goal.returns
 returns c b a sure =
     made-here sure c.put_in-made.ensures c.height_of.ensures c.if-depth-height_of-gt-MOST_HEIGHT.false
     c.nodes_of-size.ensures c.if-most-size.false
-    (told_is c.put_in-made.result 1 c.pair-2.ensures (made-low sure c.put_in-made.ensures))
+    refl

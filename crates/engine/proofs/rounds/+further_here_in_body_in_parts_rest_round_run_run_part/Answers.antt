@@ -14,8 +14,10 @@ use borrow.Author.Rules.{rules}
 use Rattle.orders.specs.Orders.{order_of}
 use Rattle.engine.specs.States.{State, standing, told, lent}
 use Rattle.engine.proofs.Runs.{turned_about, stays_shut, body_asks, rebind_asks, body-again, stays_normal, stays_variable, abstraction_asks, in_abstraction, application_asks, in_application, none_gone, ready-again, gone_on, gone_last}
-use Rattle.engine.proofs.Told.{told_is, parts_at, resting-lent, here-lent, gone_placed}
-use Rattle.engine.proofs.AtRest.{node-low, at_once}
+use Rattle.engine.proofs.Told.{resting-lent, here-lent, gone_placed}
+use Rattle.engine.proofs.AtRest.{at_once}
+use Rattle.engine.specs.declared.Stop.TheVariants.{Rested}
+use Rattle.engine.proofs.Comparing.{eq_true, eq_false, ne_true, ne_false}
 use Rattle.engine.proofs.Places.{FurtherRun, rejoined, as_application, as_it_was, rest_at_once, argument_asks, argument_halts, rest-after, SpineRun, ArgumentRun, spine_halts, spine-here, early_asks, early_halts, early_here, function_asks, function_halts, late_asks, late_halts}
 use Rattle.engine.proofs.Redexes.{contract_asks, contracted-ran, contracted_halts, no-abstraction, rest_asks, plain_halts}
 use Rattle.calculus.specs.Traits.{eager, late}
@@ -27,12 +29,12 @@ use Rattle.engine.proofs.rounds.+further_here_in_body_in_parts_rest_round_run_ru
 -- how the run stands after that in the argument
 abbrev further-argued : (t : ℕ) (c : further-After-further-q t) → State
 further-argued t c =
-    told c.further-q.result c.further-q.new.used c.further-q.new.budget c.further-q.new.spare
+    told c.further-q.result c.further-q.new.work
 
 argument-run : (t : ℕ) (c : further-After-further-q t)
     → let a = c.args in
     FurtherRun (order_of a.order) a.depth
-    (standing a.whole a.used.now a.budget.now a.spare.now) c.right_of-right.result
+    (standing a.whole a.work.now) c.right_of-right.result
     a.room.now (further-argued t c) c.further-q.new.room
 argument-run t c = record {
   fit = search rules;
@@ -42,16 +44,16 @@ argument-run t c = record {
 -- how the run stands after that in the function part, and after that in the argument
 abbrev spun : (t : ℕ) (c : in_parts-After-run_part-p t) → State
 spun t c =
-    told c.run_part-p.result c.run_part-p.new.used c.run_part-p.new.budget c.run_part-p.new.spare
+    told c.run_part-p.result c.run_part-p.new.work
 
 abbrev in_parts-argued : (t : ℕ) (c : in_parts-After-run_part-q t) → State
 in_parts-argued t c =
-    told c.run_part-q.result c.run_part-q.new.used c.run_part-q.new.budget c.run_part-q.new.spare
+    told c.run_part-q.result c.run_part-q.new.work
 
 spine-run : (t : ℕ) (c : in_parts-After-run_part-p t)
     → let a = c.args in
     SpineRun (order_of a.order) a.depth
-    (standing a.whole a.used.now a.budget.now a.spare.now) c.right_of-right.result
+    (standing a.whole a.work.now) c.right_of-right.result
     a.room.now (spun t c) c.run_part-p.new.room
 spine-run t c =
     record {
@@ -65,13 +67,12 @@ spine-run t c =
 early-run : (t : ℕ) (c : in_parts-After-run_part-q t)
     →
     let a = c.args in
-    ArgumentRun (eager (order_of a.order)) (order_of a.order) a.depth ((
-    told c.run_part-p.result c.run_part-p.new.used c.run_part-p.new.budget c.run_part-p.new.spare))
+    ArgumentRun (eager (order_of a.order)) (order_of a.order) a.depth (told c.run_part-p.result c.run_part-p.new.work)
     c.right_of-right.result c.run_part-p.new.room (in_parts-argued t c) c.run_part-q.new.room
 early-run t c =
     record {
-      at_rest = sym c.right_of-halt.ensures ∙ c.if-halt-ne-RESTED.false;
-      on = turned_about c.eager.ensures (ap not c.if-not-eager.false);
+      at_rest = ne_false c.ne.ensures c.if-ne.false;
+      on = turned_about c.is_eager.ensures (ap not c.if-not-is_eager.false);
       run = record {
         fit = search rules;
         runs = c.run_part-q.ensures;
@@ -81,15 +82,15 @@ early-run t c =
 -- how the run stands after that in the function part, and after that in the argument
 abbrev reduced : (t : ℕ) (c : rest-After-further-p t) → State
 reduced t c =
-    told c.further-p.result c.further-p.new.used c.further-p.new.budget c.further-p.new.spare
+    told c.further-p.result c.further-p.new.work
 
 abbrev rest-argued : (t : ℕ) (c : rest-After-run_part-q t) → State
 rest-argued t c =
-    told c.run_part-q.result c.run_part-q.new.used c.run_part-q.new.budget c.run_part-q.new.spare
+    told c.run_part-q.result c.run_part-q.new.work
 
 left-run : (t : ℕ) (c : rest-After-further-p t)
     → let a = c.args in
-    FurtherRun (order_of a.order) a.depth (lent a.used.now a.budget.now a.spare.now) a.left
+    FurtherRun (order_of a.order) a.depth (lent a.work.now) a.left
     a.room.now (reduced t c) c.further-p.new.room
 left-run t c = record {
   fit = search rules;
@@ -99,28 +100,22 @@ left-run t c = record {
 late-run : (t : ℕ) (c : rest-After-run_part-q t)
     →
     let a = c.args in
-    ArgumentRun (late (order_of a.order)) (order_of a.order) a.depth ((
-    told c.further-p.result c.further-p.new.used c.further-p.new.budget c.further-p.new.spare)) a.right
+    ArgumentRun (late (order_of a.order)) (order_of a.order) a.depth (told c.further-p.result c.further-p.new.work) a.right
     c.further-p.new.room (rest-argued t c) c.run_part-q.new.room
 late-run t c =
     record {
-      at_rest = sym c.right_of-halt.ensures ∙ c.if-halt-ne-RESTED.false;
-      on = turned_about c.late.ensures (ap not c.if-not-late.false);
+      at_rest = ne_false c.ne.ensures c.if-ne.false;
+      on = turned_about c.is_late.ensures (ap not c.if-not-is_late.false);
       run = record {
         fit = search rules;
         runs = c.run_part-q.ensures;
       };
     }
 
-pub further-pair-requires : goal.further-pair-requires
-further-pair-requires t c =
-    (node-low c.requires.1.ready, omega arith)
-
 pub further-returns-then-at_rest : goal.further-returns-then-at_rest
 further-returns-then-at_rest t c =
     λ u rested.
-    (at_once (c.at_rest.ensures c.if-at_rest.true)
-    (told_is c.args.whole 0 c.pair.ensures (node-low rested.ready))).ran u rested.ready
+    (at_once (c.at_rest.ensures c.if-at_rest.true)).ran u rested.ready
 
 pub further-round-requires : goal.further-round-requires
 further-round-requires t c =
@@ -135,38 +130,38 @@ pub further-rest-requires : goal.further-rest-requires
 further-rest-requires t c =
     let (u, rested) = c.requires in
     let fork = as_application rested c.kind_of.ensures c.if-kind_of-ne3.false in
-    let lazy = turned_about c.eager.ensures (ap not c.if-not-eager.true) in (
+    let lazy = turned_about c.is_eager.ensures (ap not c.if-not-is_eager.true) in (
       omega (arith, c.decreases),
       (
         _,
         _,
         _,
-        resting-lent refl refl (rest_at_once fork c.left_of-left.ensures
+        resting-lent (rest_at_once fork c.left_of-left.ensures
             c.right_of-right.ensures lazy),
       ),
     )
 
-pub further-returns-then-not-eager : goal.further-returns-then-not-eager
-further-returns-then-not-eager t c =
-    let lazy = turned_about c.eager.ensures (ap not c.if-not-eager.true) in
+pub further-returns-then-not-is_eager : goal.further-returns-then-not-is_eager
+further-returns-then-not-is_eager t c =
+    let lazy = turned_about c.is_eager.ensures (ap not c.if-not-is_eager.true) in
     λ u rested.
     let fork = as_application rested c.kind_of.ensures c.if-kind_of-ne3.false in
     as_it_was rested c.kind_of.ensures c.if-kind_of-ne3.false
-    (c.rest.ensures _ _ _ (resting-lent refl refl (rest_at_once fork c.left_of-left.ensures
+    (c.rest.ensures _ _ _ (resting-lent (rest_at_once fork c.left_of-left.ensures
     c.right_of-right.ensures lazy)))
 
 pub further-overflow_add-depth : goal.further-overflow_add-depth
 further-overflow_add-depth t c =
     let (u, rested) = c.requires in
     let fork = as_application rested c.kind_of.ensures c.if-kind_of-ne3.false in
-    let on = turned_about c.eager.ensures (ap not c.if-not-eager.false) in
+    let on = turned_about c.is_eager.ensures (ap not c.if-not-is_eager.false) in
     omega (arith, (argument_asks fork c.left_of-left.ensures c.right_of-right.ensures on).ready.deep)
 
 pub further-further-q-requires : goal.further-further-q-requires
 further-further-q-requires t c =
     let (u, rested) = c.requires in
     let fork = as_application rested c.kind_of.ensures c.if-kind_of-ne3.false in
-    let on = turned_about c.eager.ensures (ap not c.if-not-eager.false) in
+    let on = turned_about c.is_eager.ensures (ap not c.if-not-is_eager.false) in
     let asks = argument_asks fork c.left_of-left.ensures c.right_of-right.ensures on in
     (omega (arith, c.decreases, asks.ready.deep), (_, asks))
 
@@ -174,90 +169,82 @@ pub further-rejoin-requires : goal.further-rejoin-requires
 further-rejoin-requires t c =
     let (u, rested) = c.requires in
     let fork = as_application rested c.kind_of.ensures c.if-kind_of-ne3.false in
-    let on = turned_about c.eager.ensures (ap not c.if-not-eager.false) in
+    let on = turned_about c.is_eager.ensures (ap not c.if-not-is_eager.false) in
     let halts = argument_halts fork c.left_of-left.ensures c.right_of-right.ensures on
     (argument-run t (goal.at.further-rejoin-requires t c).After-further-q)
-    (λ e. c.if-stop-ne-RESTED.true (c.right_of-stop.ensures ∙ e)) in (
-      (_, _, _, _, _, parts_at refl c.left_of-argument.ensures halts.parted.parts, refl),
-      omega (arith, c.right_of-stop.ensures, c.further-q.type_inv),
-    )
+    (ne_true c.ne.ensures c.if-ne.true) in
+    (_, _, _, _, _, halts.parted.parts, refl)
 
-pub further-returns-then-stop-ne-RESTED : goal.further-returns-then-stop-ne-RESTED
-further-returns-then-stop-ne-RESTED t c =
-    let on = turned_about c.eager.ensures (ap not c.if-not-eager.false) in
+pub further-returns-then-ne : goal.further-returns-then-ne
+further-returns-then-ne t c =
+    let on = turned_about c.is_eager.ensures (ap not c.if-not-is_eager.false) in
     λ u rested.
     let fork = as_application rested c.kind_of.ensures c.if-kind_of-ne3.false in
     as_it_was rested c.kind_of.ensures c.if-kind_of-ne3.false
     (rejoined (argument_halts fork c.left_of-left.ensures c.right_of-right.ensures on
-    (argument-run t (goal.at.further-returns-then-stop-ne-RESTED t c).After-further-q)
-    (λ e. c.if-stop-ne-RESTED.true (c.right_of-stop.ensures ∙ e))) refl
-    (rw c.left_of-argument.ensures at (c.rejoin.ensures (further-argued t (goal.at.further-returns-then-stop-ne-RESTED t c).After-further-q)
-    (sym c.right_of-stop.ensures))))
+    (argument-run t (goal.at.further-returns-then-ne t c).After-further-q)
+    (ne_true c.ne.ensures c.if-ne.true)) refl
+    (c.rejoin.ensures c.further-q.result
+    refl))
 
 pub further-rest-requires-2 : goal.further-rest-requires-2
 further-rest-requires-2 t c =
     let (u, rested) = c.requires in
     let fork = as_application rested c.kind_of.ensures c.if-kind_of-ne3.false in
-    let on = turned_about c.eager.ensures (ap not c.if-not-eager.false) in
-    let zero = sym c.right_of-stop.ensures ∙ c.if-stop-ne-RESTED.false in
+    let on = turned_about c.is_eager.ensures (ap not c.if-not-is_eager.false) in
+    let zero = ne_false c.ne.ensures c.if-ne.false in
     let resting = rest-after fork c.left_of-left.ensures c.right_of-right.ensures on
     (argument-run t (goal.at.further-rest-requires-2 t c).After-further-q) zero in
-    (omega (arith, c.decreases), (_, _, _, resting-lent refl c.left_of-argument.ensures resting))
+    (omega (arith, c.decreases), (_, _, _, resting-lent resting))
 
 pub further-returns : goal.further-returns
 further-returns t c =
-    let on = turned_about c.eager.ensures (ap not c.if-not-eager.false) in
-    let zero = sym c.right_of-stop.ensures ∙ c.if-stop-ne-RESTED.false in
+    let on = turned_about c.is_eager.ensures (ap not c.if-not-is_eager.false) in
+    let zero = ne_false c.ne.ensures c.if-ne.false in
     λ u rested.
     let fork = as_application rested c.kind_of.ensures c.if-kind_of-ne3.false in
     let resting = rest-after fork c.left_of-left.ensures c.right_of-right.ensures on
     (argument-run t (goal.at.further-returns t c).After-further-q) zero in
     as_it_was rested c.kind_of.ensures c.if-kind_of-ne3.false
-    (c.rest-2.ensures _ _ _ (resting-lent refl c.left_of-argument.ensures resting))
+    (c.rest-2.ensures _ _ _ (resting-lent resting))
 
 pub here-contract-c-requires : goal.here-contract-c-requires
 here-contract-c-requires t c =
     contract_asks c.requires.3 c.kind_of.ensures c.if-kind_of-eq2.true
 
-pub here-returns-then-stop-eq-STEPPED : goal.here-returns-then-stop-eq-STEPPED
-here-returns-then-stop-eq-STEPPED t c =
+pub here-returns-then-eq : goal.here-returns-then-eq
+here-returns-then-eq t c =
     λ a l r here.
     contracted-ran here c.kind_of.ensures c.if-kind_of-eq2.true c.contract-c.ensures
-    (sym c.right_of-stop.ensures ∙ c.if-stop-eq-STEPPED.true)
+    (eq_true c.eq.ensures c.if-eq.true)
 
 pub here-rejoin-requires : goal.here-rejoin-requires
 here-rejoin-requires t c =
     let here = c.requires.3 in
     let halts = contracted_halts here c.kind_of.ensures c.if-kind_of-eq2.true
     c.contract-c.ensures
-    (λ e. c.if-stop-eq-STEPPED.false (c.right_of-stop.ensures ∙ e)) in (
-      (_, _, _, _, _, halts.parted.parts, here.at_whole),
-      omega (
-        arith,
-        c.right_of-stop.ensures,
-        c.contract-c.type_inv,
-      ),
-    )
+    (eq_false c.eq.ensures c.if-eq.false) in
+    (_, _, _, _, _, halts.parted.parts, here.at_whole)
 
 pub here-returns-then-kind_of-eq2 : goal.here-returns-then-kind_of-eq2
 here-returns-then-kind_of-eq2 t c =
     λ a l r here.
     let halts = contracted_halts here c.kind_of.ensures c.if-kind_of-eq2.true
     c.contract-c.ensures
-    (λ e. c.if-stop-eq-STEPPED.false (c.right_of-stop.ensures ∙ e)) in
-    rejoined halts here.at_whole (c.rejoin.ensures _ (sym c.right_of-stop.ensures))
+    (eq_false c.eq.ensures c.if-eq.false) in
+    rejoined halts here.at_whole (c.rejoin.ensures c.contract-c.result refl)
 
 pub here-rest-requires : goal.here-rest-requires
 here-rest-requires t c =
     let here = c.requires.3 in
-    let on = sym c.hybrid.ensures ∙ c.if-hybrid.true in (
+    let on = sym c.is_hybrid.ensures ∙ c.if-is_hybrid.true in (
       omega (arith, c.decreases),
       (_, _, _, rest_asks here (no-abstraction here c.kind_of.ensures c.if-kind_of-eq2.false) on),
     )
 
-pub here-returns-then-hybrid : goal.here-returns-then-hybrid
-here-returns-then-hybrid t c =
-    let on = sym c.hybrid.ensures ∙ c.if-hybrid.true in
+pub here-returns-then-is_hybrid : goal.here-returns-then-is_hybrid
+here-returns-then-is_hybrid t c =
+    let on = sym c.is_hybrid.ensures ∙ c.if-is_hybrid.true in
     λ a l r here.
     c.rest.ensures _ _ _ (rest_asks here (no-abstraction here c.kind_of.ensures
     c.if-kind_of-eq2.false) on)
@@ -265,24 +252,19 @@ here-returns-then-hybrid t c =
 pub here-rejoin-requires-2 : goal.here-rejoin-requires-2
 here-rejoin-requires-2 t c =
     let here = c.requires.3 in
-    ((_, _, _, _, _, here.parted.parts, here.at_whole), omega arith)
+    (_, _, _, _, _, here.parted.parts, here.at_whole)
 
 pub here-returns : goal.here-returns
 here-returns t c =
-    let off = sym c.hybrid.ensures ∙ c.if-hybrid.false in
+    let off = sym c.is_hybrid.ensures ∙ c.if-is_hybrid.false in
     λ a l r here.
     let halts = plain_halts here (no-abstraction here c.kind_of.ensures c.if-kind_of-eq2.false) off in
-    rejoined halts here.at_whole (c.rejoin-2.ensures _ refl)
+    rejoined halts here.at_whole (c.rejoin-2.ensures (record { node = 0; stop = Rested }) refl)
 
-pub in_body-pair-requires : goal.in_body-pair-requires
-in_body-pair-requires t c =
-    (node-low c.requires.1, omega arith)
-
-pub in_body-returns-then-not-enters : goal.in_body-returns-then-not-enters
-in_body-returns-then-not-enters t c =
+pub in_body-returns-then-not-enters_bodies : goal.in_body-returns-then-not-enters_bodies
+in_body-returns-then-not-enters_bodies t c =
     λ b ready.
-    stays_shut ready (turned_about c.enters.ensures (ap not c.if-not-enters.true))
-    (told_is c.args.whole 0 c.pair.ensures (node-low ready))
+    stays_shut ready (turned_about c.enters_bodies.ensures (ap not c.if-not-enters_bodies.true))
 
 pub in_body-overflow_add-depth : goal.in_body-overflow_add-depth
 in_body-overflow_add-depth t c =
@@ -295,14 +277,14 @@ in_body-run_part-b-requires t c =
 
 pub in_body-rebind-requires : goal.in_body-rebind-requires
 in_body-rebind-requires t c =
-    (_, _, _, _, _, _, rebind_asks c.requires.1 c.run_part-b.ensures, refl)
+    (_, _, _, _, rebind_asks c.requires.1 c.run_part-b.ensures, refl)
 
 pub in_body-returns : goal.in_body-returns
 in_body-returns t c =
     λ b ready.
     let runs = c.run_part-b.ensures in
-    body-again ready runs (turned_about c.enters.ensures (ap not c.if-not-enters.false))
-    (c.rebind.ensures _ _ _ _ _ _ (rebind_asks ready runs) refl)
+    body-again ready runs (turned_about c.enters_bodies.ensures (ap not c.if-not-enters_bodies.false))
+    (c.rebind.ensures _ _ _ _ (rebind_asks ready runs) refl)
 
 pub in_parts-overflow_add-depth : goal.in_parts-overflow_add-depth
 in_parts-overflow_add-depth t c =
@@ -318,33 +300,31 @@ in_parts-run_part-p-requires t c =
 pub in_parts-rejoin-requires : goal.in_parts-rejoin-requires
 in_parts-rejoin-requires t c =
     let halts = spine_halts c.requires.2 (spine-run t (goal.at.in_parts-rejoin-requires t c).After-run_part-p)
-    (λ e. c.if-halt-ne-RESTED.true (c.right_of-halt.ensures ∙ e)) in (
-      (_, _, _, _, _, parts_at c.left_of-left.ensures refl halts.parted.parts, refl),
-      omega (arith, c.right_of-halt.ensures, c.run_part-p.type_inv),
-    )
+    (ne_true c.ne.ensures c.if-ne.true) in
+    (_, _, _, _, _, halts.parted.parts, refl)
 
-pub in_parts-returns-then-halt-ne-RESTED : goal.in_parts-returns-then-halt-ne-RESTED
-in_parts-returns-then-halt-ne-RESTED t c =
+pub in_parts-returns-then-ne : goal.in_parts-returns-then-ne
+in_parts-returns-then-ne t c =
     λ l r ready.
-    rejoined (spine_halts ready (spine-run t (goal.at.in_parts-returns-then-halt-ne-RESTED t c).After-run_part-p)
-    (λ e. c.if-halt-ne-RESTED.true (c.right_of-halt.ensures ∙ e))) refl
-    (rw c.left_of-left.ensures at (c.rejoin.ensures (spun t (goal.at.in_parts-returns-then-halt-ne-RESTED t c).After-run_part-p)
-    (sym c.right_of-halt.ensures)))
+    rejoined (spine_halts ready (spine-run t (goal.at.in_parts-returns-then-ne t c).After-run_part-p)
+    (ne_true c.ne.ensures c.if-ne.true)) refl
+    (c.rejoin.ensures c.run_part-p.result
+    refl)
 
 pub in_parts-here-requires : goal.in_parts-here-requires
 in_parts-here-requires t c =
-    let lazy = turned_about c.eager.ensures (ap not c.if-not-eager.true) in
-    let zero = sym c.right_of-halt.ensures ∙ c.if-halt-ne-RESTED.false in
+    let lazy = turned_about c.is_eager.ensures (ap not c.if-not-is_eager.true) in
+    let zero = ne_false c.ne.ensures c.if-ne.false in
     let here = spine-here c.requires.2 (spine-run t (goal.at.in_parts-here-requires t c).After-run_part-p) zero lazy in
-    (omega (arith, c.decreases), (_, _, _, here-lent c.left_of-left.ensures refl here))
+    (omega (arith, c.decreases), (_, _, _, here-lent here))
 
-pub in_parts-returns-then-not-eager : goal.in_parts-returns-then-not-eager
-in_parts-returns-then-not-eager t c =
-    let lazy = turned_about c.eager.ensures (ap not c.if-not-eager.true) in
-    let zero = sym c.right_of-halt.ensures ∙ c.if-halt-ne-RESTED.false in
+pub in_parts-returns-then-not-is_eager : goal.in_parts-returns-then-not-is_eager
+in_parts-returns-then-not-is_eager t c =
+    let lazy = turned_about c.is_eager.ensures (ap not c.if-not-is_eager.true) in
+    let zero = ne_false c.ne.ensures c.if-ne.false in
     λ l r ready.
-    let here = spine-here ready (spine-run t (goal.at.in_parts-returns-then-not-eager t c).After-run_part-p) zero lazy in
-    c.here.ensures _ _ _ (here-lent c.left_of-left.ensures refl here)
+    let here = spine-here ready (spine-run t (goal.at.in_parts-returns-then-not-is_eager t c).After-run_part-p) zero lazy in
+    c.here.ensures _ _ _ (here-lent here)
 
 pub in_parts-overflow_add-depth-2 : goal.in_parts-overflow_add-depth-2
 in_parts-overflow_add-depth-2 t c =
@@ -355,51 +335,38 @@ in_parts-run_part-q-requires t c =
     let asks = early_asks c.requires.2 (spine-run t (goal.at.in_parts-run_part-q-requires t c).After-run_part-p) in
     (omega (arith, c.decreases, asks.deep), (_, asks))
 
-pub in_parts-rejoin-requires-then-stop-ne-RESTED : goal.in_parts-rejoin-requires-then-stop-ne-RESTED
-in_parts-rejoin-requires-then-stop-ne-RESTED t c =
-    let halts = early_halts c.requires.2 (spine-run t (goal.at.in_parts-rejoin-requires-then-stop-ne-RESTED t c).After-run_part-p) (early-run t (goal.at.in_parts-rejoin-requires-then-stop-ne-RESTED t c).After-run_part-q)
-    (λ e. c.if-stop-ne-RESTED.true (c.right_of-stop.ensures ∙ e)) in (
-      (
-        _,
-        _,
-        _,
-        _,
-        _,
-        parts_at c.left_of-left.ensures c.left_of-argument.ensures
-            halts.parted.parts,
-        refl,
-      ),
-      omega (arith, c.right_of-stop.ensures, c.run_part-q.type_inv),
-    )
+pub in_parts-rejoin-requires-then-ne-2 : goal.in_parts-rejoin-requires-then-ne-2
+in_parts-rejoin-requires-then-ne-2 t c =
+    let halts = early_halts c.requires.2 (spine-run t (goal.at.in_parts-rejoin-requires-then-ne-2 t c).After-run_part-p) (early-run t (goal.at.in_parts-rejoin-requires-then-ne-2 t c).After-run_part-q)
+    (ne_true c.ne-2.ensures c.if-ne-2.true) in
+    (_, _, _, _, _, halts.parted.parts, refl)
 
-pub in_parts-returns-then-stop-ne-RESTED : goal.in_parts-returns-then-stop-ne-RESTED
-in_parts-returns-then-stop-ne-RESTED t c =
+pub in_parts-returns-then-ne-2 : goal.in_parts-returns-then-ne-2
+in_parts-returns-then-ne-2 t c =
     λ l r ready.
-    rejoined (early_halts ready (spine-run t (goal.at.in_parts-returns-then-stop-ne-RESTED t c).After-run_part-p) (early-run t (goal.at.in_parts-returns-then-stop-ne-RESTED t c).After-run_part-q)
-    (λ e. c.if-stop-ne-RESTED.true (c.right_of-stop.ensures ∙ e))) refl
-    (rw (c.left_of-left.ensures, c.left_of-argument.ensures) at
-    (c.rejoin-then-stop-ne-RESTED.ensures (in_parts-argued t (goal.at.in_parts-returns-then-stop-ne-RESTED t c).After-run_part-q) (sym c.right_of-stop.ensures)))
+    rejoined (early_halts ready (spine-run t (goal.at.in_parts-returns-then-ne-2 t c).After-run_part-p) (early-run t (goal.at.in_parts-returns-then-ne-2 t c).After-run_part-q)
+    (ne_true c.ne-2.ensures c.if-ne-2.true)) refl
+    (c.rejoin-then-ne-2.ensures c.run_part-q.result refl)
 
 pub in_parts-here-requires-2 : goal.in_parts-here-requires-2
 in_parts-here-requires-2 t c =
-    let zero = sym c.right_of-stop.ensures ∙ c.if-stop-ne-RESTED.false in
+    let zero = ne_false c.ne-2.ensures c.if-ne-2.false in
     let here = early_here c.requires.2 (spine-run t (goal.at.in_parts-here-requires-2 t c).After-run_part-p) (early-run t (goal.at.in_parts-here-requires-2 t c).After-run_part-q) zero in (
       omega (arith, c.decreases),
       (
         _,
         _,
         _,
-        here-lent c.left_of-left.ensures
-            c.left_of-argument.ensures here,
+        here-lent here,
       ),
     )
 
 pub in_parts-returns : goal.in_parts-returns
 in_parts-returns t c =
-    let zero = sym c.right_of-stop.ensures ∙ c.if-stop-ne-RESTED.false in
+    let zero = ne_false c.ne-2.ensures c.if-ne-2.false in
     λ l r ready.
     let here = early_here ready (spine-run t (goal.at.in_parts-returns t c).After-run_part-p) (early-run t (goal.at.in_parts-returns t c).After-run_part-q) zero in
-    c.here-2.ensures _ _ _ (here-lent c.left_of-left.ensures c.left_of-argument.ensures here)
+    c.here-2.ensures _ _ _ (here-lent here)
 
 pub rest-overflow_add-depth : goal.rest-overflow_add-depth
 rest-overflow_add-depth t c =
@@ -413,39 +380,32 @@ rest-further-p-requires t c =
 pub rest-rejoin-requires : goal.rest-rejoin-requires
 rest-rejoin-requires t c =
     let resting = c.requires.3 in
-    let halts = function_halts resting (left-run t (goal.at.rest-rejoin-requires t c).After-further-p) (λ e. absurd
-    (c.if-halt-ne-RESTED.true (c.right_of-halt.ensures ∙ e))) in (
-      (_, _, _, _, _, parts_at c.left_of-function.ensures refl halts.parted.parts, resting.at_whole),
-      omega (arith, c.right_of-halt.ensures, c.further-p.type_inv),
-    )
+    let halts = function_halts resting (left-run t (goal.at.rest-rejoin-requires t c).After-further-p) (λ e. absurd (ne_true c.ne.ensures c.if-ne.true e)) in
+    (_, _, _, _, _, halts.parted.parts, resting.at_whole)
 
-pub rest-returns-then-halt-ne-RESTED : goal.rest-returns-then-halt-ne-RESTED
-rest-returns-then-halt-ne-RESTED t c =
+pub rest-returns-then-ne : goal.rest-returns-then-ne
+rest-returns-then-ne t c =
     λ a l r resting.
-    let halts = function_halts resting (left-run t (goal.at.rest-returns-then-halt-ne-RESTED t c).After-further-p) (λ e. absurd
-    (c.if-halt-ne-RESTED.true (c.right_of-halt.ensures ∙ e))) in
+    let halts = function_halts resting (left-run t (goal.at.rest-returns-then-ne t c).After-further-p) (λ e. absurd (ne_true c.ne.ensures c.if-ne.true e)) in
     rejoined halts resting.at_whole
-    (rw c.left_of-function.ensures at (c.rejoin.ensures (reduced t (goal.at.rest-returns-then-halt-ne-RESTED t c).After-further-p)
-    (sym c.right_of-halt.ensures)))
+    (c.rejoin.ensures c.further-p.result
+    refl)
 
-pub rest-rejoin-requires-then-not-late : goal.rest-rejoin-requires-then-not-late
-rest-rejoin-requires-then-not-late t c =
+pub rest-rejoin-requires-then-not-is_late : goal.rest-rejoin-requires-then-not-is_late
+rest-rejoin-requires-then-not-is_late t c =
     let resting = c.requires.3 in
-    let halts = function_halts resting (left-run t (goal.at.rest-rejoin-requires-then-not-late t c).After-further-p)
-    (λ e. turned_about c.late.ensures (ap not c.if-not-late.true)) in (
-      (_, _, _, _, _, parts_at c.left_of-function.ensures refl halts.parted.parts, resting.at_whole),
-      omega
-          arith,
-    )
+    let halts = function_halts resting (left-run t (goal.at.rest-rejoin-requires-then-not-is_late t c).After-further-p)
+    (λ e. turned_about c.is_late.ensures (ap not c.if-not-is_late.true)) in
+    (_, _, _, _, _, halts.parted.parts, resting.at_whole)
 
-pub rest-returns-then-not-late : goal.rest-returns-then-not-late
-rest-returns-then-not-late t c =
+pub rest-returns-then-not-is_late : goal.rest-returns-then-not-is_late
+rest-returns-then-not-is_late t c =
     λ a l r resting.
-    let halts = function_halts resting (left-run t (goal.at.rest-returns-then-not-late t c).After-further-p)
-    (λ e. turned_about c.late.ensures (ap not c.if-not-late.true)) in
+    let halts = function_halts resting (left-run t (goal.at.rest-returns-then-not-is_late t c).After-further-p)
+    (λ e. turned_about c.is_late.ensures (ap not c.if-not-is_late.true)) in
     rejoined halts resting.at_whole
-    (rw c.left_of-function.ensures at (c.rejoin-then-not-late.ensures (reduced t (goal.at.rest-returns-then-not-late t c).After-further-p)
-    (sym c.right_of-halt.ensures ∙ c.if-halt-ne-RESTED.false)))
+    (c.rejoin-then-not-is_late.ensures c.further-p.result
+    (ne_false c.ne.ensures c.if-ne.false))
 
 pub rest-overflow_add-depth-2 : goal.rest-overflow_add-depth-2
 rest-overflow_add-depth-2 t c =
@@ -459,46 +419,24 @@ rest-run_part-q-requires t c =
 pub rest-rejoin-requires-2 : goal.rest-rejoin-requires-2
 rest-rejoin-requires-2 t c =
     let resting = c.requires.3 in
-    let halts = late_halts resting (left-run t (goal.at.rest-rejoin-requires-2 t c).After-further-p) (late-run t (goal.at.rest-rejoin-requires-2 t c).After-run_part-q) in (
-      (
-        _,
-        _,
-        _,
-        _,
-        _,
-        parts_at c.left_of-function.ensures c.left_of-argument.ensures
-            halts.parted.parts,
-        resting.at_whole,
-      ),
-      omega (arith, c.right_of.ensures, c.run_part-q.type_inv),
-    )
+    let halts = late_halts resting (left-run t (goal.at.rest-rejoin-requires-2 t c).After-further-p) (late-run t (goal.at.rest-rejoin-requires-2 t c).After-run_part-q) in
+    (_, _, _, _, _, halts.parted.parts, resting.at_whole)
 
 pub rest-returns : goal.rest-returns
 rest-returns t c =
     λ a l r resting.
     rejoined (late_halts resting (left-run t (goal.at.rest-returns t c).After-further-p) (late-run t (goal.at.rest-returns t c).After-run_part-q)) resting.at_whole
-    (rw (c.left_of-function.ensures, c.left_of-argument.ensures) at
-    (c.rejoin-2.ensures (rest-argued t (goal.at.rest-returns t c).After-run_part-q) (sym c.right_of.ensures)))
-
-pub round-pair-requires : goal.round-pair-requires
-round-pair-requires t c =
-    (node-low c.requires.1, omega arith)
+    (c.rejoin-2.ensures c.run_part-q.result refl)
 
 pub round-returns-then-normal_of-eq1 : goal.round-returns-then-normal_of-eq1
 round-returns-then-normal_of-eq1 t c =
     λ u ready.
     stays_normal ready c.normal_of.ensures c.if-normal_of-eq1.true
-    (told_is c.args.node 0 c.pair.ensures (node-low ready))
-
-pub round-pair-requires-then-kind-eq1 : goal.round-pair-requires-then-kind-eq1
-round-pair-requires-then-kind-eq1 t c =
-    (node-low c.requires.1, omega arith)
 
 pub round-returns-then-kind-eq1 : goal.round-returns-then-kind-eq1
 round-returns-then-kind-eq1 t c =
     λ u ready.
     stays_variable ready c.kind_of-kind.ensures c.if-kind-eq1.true
-    (told_is c.args.node 0 c.pair-then-kind-eq1.ensures (node-low ready))
 
 pub round-in_body-requires : goal.round-in_body-requires
 round-in_body-requires t c = (
@@ -525,25 +463,25 @@ round-returns t c =
 
 pub run-loop-order-init : goal.run-loop-order-init
 run-loop-order-init t c =
-    λ u ready. none_gone ready 0
+    λ u ready. none_gone ready Rested
 
 pub run-round-q-requires : goal.run-round-q-requires
 run-round-q-requires t c =
     let ready = c.requires.1 in
     (omega (arith, c.decreases), (_, ready-again ready (c.loop-order.invariant _ ready)))
 
-pub run-shape_of-room-then-right_of-ne-STEPPED : goal.run-shape_of-room-then-right_of-ne-STEPPED
-run-shape_of-room-then-right_of-ne-STEPPED t c =
+pub run-shape_of-room-then-ne : goal.run-shape_of-room-then-ne
+run-shape_of-room-then-ne t c =
     c.round-q.auto.room ∙ (c.loop-order.invariant _ c.requires.1).same.as_long
 
-pub run-returns-then-right_of-ne-STEPPED : goal.run-returns-then-right_of-ne-STEPPED
-run-returns-then-right_of-ne-STEPPED t c =
+pub run-returns-then-ne : goal.run-returns-then-ne
+run-returns-then-ne t c =
     record {
       ran = λ u ready.
           let gone = c.loop-order.invariant u ready in
           gone_last ready gone (c.round-q.ensures gone.term (ready-again ready gone))
-          (λ one. c.if-right_of-ne-STEPPED.true (c.right_of.ensures ∙ one));
-      ended = λ one. c.if-right_of-ne-STEPPED.true (c.right_of.ensures ∙ one);
+          (ne_true c.ne.ensures c.if-ne.true);
+      ended = ne_true c.ne.ensures c.if-ne.true;
     }
 
 pub run-loop-order-smaller : goal.run-loop-order-smaller
@@ -551,23 +489,18 @@ run-loop-order-smaller t c =
     let ready = c.requires.1 in
     let gone = c.loop-order.invariant _ ready in
     let ran = c.round-q.ensures gone.term (ready-again ready gone) in
-    omega (arith, ran.count, ran.turned (sym c.right_of.ensures ∙ c.if-right_of-ne-STEPPED.false))
+    omega (arith, ran.count, ran.turned (ne_false c.ne.ensures c.if-ne.false))
 
 pub run-loop-order-preserved : goal.run-loop-order-preserved
 run-loop-order-preserved t c =
     λ u ready.
     let gone = c.loop-order.invariant u ready in
-    gone_placed c.left_of-node.ensures
+    gone_placed
     (gone_on ready gone (c.round-q.ensures gone.term (ready-again ready gone)))
-
-pub run_part-pair-requires : goal.run_part-pair-requires
-run_part-pair-requires t c =
-    (node-low c.requires.1, omega arith)
 
 pub run_part-returns-then-at_rest : goal.run_part-returns-then-at_rest
 run_part-returns-then-at_rest t c =
     at_once (c.at_rest.ensures c.if-at_rest.true)
-    (told_is c.args.node 0 c.pair.ensures (node-low c.requires.1))
 
 pub run_part-run-requires : goal.run_part-run-requires
 run_part-run-requires t c =

@@ -42,9 +42,9 @@ decreases-run_part l = 8 * (most_height - l.depth) + 6
 
 abbrev pub invariant-run-loop-order : goal.invariant-run-loop-order
 invariant-run-loop-order l =
-    (u : Term) → Ready u l.initial.room l.depth (standing l.from l.initial.used l.initial.budget l.initial.spare)
-    → Gone (order_of l.order) l.depth (started u (standing l.from l.initial.used l.initial.budget l.initial.spare) l.initial.room)
-    (standing l.node l.used l.budget l.spare) l.room
+    (u : Term) → Ready u l.initial.room l.depth (standing l.from l.initial.work)
+    → Gone (order_of l.order) l.depth (started u (standing l.from l.initial.work) l.initial.room)
+    (standing l.node l.work) l.room
 
 abbrev pub decreases-run-loop-order : goal.decreases-run-loop-order
-decreases-run-loop-order l = l.budget
+decreases-run-loop-order l = l.work.budget

@@ -1,13 +1,15 @@
 -- `eta::naming::load` meets its contract: at each head it is a law of `Loaded`. The offset grows at each call.
+use Rattle.std.specs.Prelude.{Some}
 use Prim.Native.Nat.{ℕ, ◌<◌}
-use mathlib.Core.Path.{◌≡◌, refl, sym, ◌∙◌}
+use mathlib.Core.Path.{◌≡◌, refl, sym, ap, ◌∙◌}
 use native.Mathlib.Omega.{arith}
 use lib.ListN.{drop}
 use borrow.Author.Rules.{rules}
+use Rattle.term.proofs.Places.{head_stands}
 use Rattle.term.specs.Heads.{head_in}
 use Rattle.term.specs.declared.Head.TheVariants.{Variable, Abstraction, Application}
 use Rattle.nodes.proofs.Stored.{stored}
-use Rattle.eta.proofs.Loaded.{some-made, counts-length, variable-inside, variable_asks, at_variable, at_nothing}
+use Rattle.eta.proofs.Loaded.{some-made, counts-length, variable-inside, variable_asks, at_variable}
 use Rattle.eta.proofs.Loaded.{depth_low, depth_inside, body_asks, binder-fits, at_abstraction}
 use Rattle.eta.proofs.Loaded.{left_asks, right_asks, parts-made, application-fits, at_application}
 use Rattle.eta.proofs.naming.+load.Goals as goal
@@ -16,18 +18,18 @@ use Rattle.eta.proofs.naming.+load.Goals.{After-load-right, In-Abstraction, In-A
 -- the head in each arm
 var-head : (t : ℕ) (c : In-Variable t)
     → let a = c.args in
-    head_in (drop a.at a.s.now) ≡ Variable c.in-Variable.index
-var-head t c = sym c.head_at.ensures ∙ c.in-Variable.is
+    head_in (drop a.at a.s.now) ≡ Some (Variable c.in-Variable.index)
+var-head t c = sym c.head_at.ensures ∙ c.unwrap.ensures ∙ ap Some c.in-Variable.is
 
 lam-head : (t : ℕ) (c : In-Abstraction t)
     → let a = c.args in
-    head_in (drop a.at a.s.now) ≡ Abstraction
-lam-head t c = sym c.head_at.ensures ∙ c.in-Abstraction.is
+    head_in (drop a.at a.s.now) ≡ Some Abstraction
+lam-head t c = sym c.head_at.ensures ∙ c.unwrap.ensures ∙ ap Some c.in-Abstraction.is
 
 app-head : (t : ℕ) (c : In-Application t)
     → let a = c.args in
-    head_in (drop a.at a.s.now) ≡ Application
-app-head t c = sym c.head_at.ensures ∙ c.in-Application.is
+    head_in (drop a.at a.s.now) ≡ Some Application
+app-head t c = sym c.head_at.ensures ∙ c.unwrap.ensures ∙ ap Some c.in-Application.is
 
 nodes-made : (t : ℕ) (c : After-load-right t)
     → let l = c.load-left.result.used in
@@ -35,7 +37,7 @@ nodes-made : (t : ℕ) (c : After-load-right t)
     (0 < l) × (l < r) × (r < 4294967296)
 nodes-made t c =
     let app-head : (let a = c.args in
-    head_in (drop a.at a.s.now) ≡ Application) = sym c.head_at.ensures ∙ c.in-Application.is in
+    head_in (drop a.at a.s.now) ≡ Some Application) = sym c.head_at.ensures ∙ c.unwrap.ensures ∙ ap Some c.in-Application.is in
     parts-made (app-head) c.requires c.load-left.ensures c.load-right.ensures
 
 -- A VARIABLE
@@ -155,6 +157,5 @@ returns-in-Application t c =
     rw c.either.ensures
     (at_application head c.requires first second refl c.pair.ensures next (stored _ _ _ _ fits put))
 
-pub returns-in-Nothing : goal.returns-in-Nothing
-returns-in-Nothing t c =
-    at_nothing (sym c.head_at.ensures ∙ c.in-Nothing.is) c.requires
+pub unwrap-requires : goal.unwrap-requires
+unwrap-requires t c = head_stands c.requires.stands _ c.head_at.ensures

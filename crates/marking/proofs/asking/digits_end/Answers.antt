@@ -1,22 +1,17 @@
--- `marking::asking::digits_end` meets its contract. The invariant: those that are left end where all of them end.
-use mathlib.Core.Path.{ap}
-use native.Mathlib.Omega.{arith}
-use lib.ListN.{length}
-use Rattle.marking.proofs.Digits.{DigitAt, digits-over, no_digit, a_digit}
+-- `marking::asking::digits_end` meets its contract.
+use Rattle.std.proofs.Common.{sym, ◌∙◌, arith}
+use Rattle.marking.proofs.Digits.{digits-over, no_figure, a_figure}
 use Rattle.marking.proofs.asking.digits_end.Goals as goal
 
-pub returns-then-s-at-lt48 : goal.returns-then-s-at-lt48
-returns-then-s-at-lt48 c =
-    omega (arith, no_digit c.args.s.now c.loop-at.at (omega arith) (λ h. omega arith))
-
-pub returns-then-s-at-gt57 : goal.returns-then-s-at-gt57
-returns-then-s-at-gt57 c =
-    omega (arith, no_digit c.args.s.now c.loop-at.at (omega arith) (λ h. omega arith))
+pub returns-then-not-is_ascii_digit : goal.returns-then-not-is_ascii_digit
+returns-then-not-is_ascii_digit c =
+    let none = sym c.is_ascii_digit.ensures.value ∙ c.if-not-is_ascii_digit.true in
+    omega (arith, c.loop-at.invariant.0, no_figure c.args.s.now c.loop-at.at (omega arith) none)
 
 pub loop-at-preserved : goal.loop-at-preserved
 loop-at-preserved c =
-    let digit : DigitAt c.args.s.now c.loop-at.at = omega arith in
-    omega (arith, ap length (a_digit digit))
+    let one = sym c.is_ascii_digit.ensures.value ∙ c.if-not-is_ascii_digit.false in
+    (omega (arith, c.loop-at.invariant.0, a_figure c.args.s.now c.loop-at.at (omega arith) one), omega arith)
 
 pub returns : goal.returns
-returns c = omega (arith, digits-over c.args.s.now c.loop-at.at c.loop-at-test.false)
+returns c = omega (arith, c.loop-at.invariant.0, c.loop-at.invariant.1, c.max.ensures, digits-over c.args.s.now c.loop-at.at c.loop-at-test.false)

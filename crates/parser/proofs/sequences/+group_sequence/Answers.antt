@@ -1,7 +1,9 @@
 -- `parser::sequences::sequence` and `group` meet their contracts, each turn by a law. The text that remains falls.
-use mathlib.Core.Path.{◌∙◌}
+use Rattle.std.proofs.lemmas.Result.{err_from_is_err_and}
 use native.Mathlib.Omega.{arith}
-use Rattle.parser.proofs.Turns.{at_first, variable-read, closed-here, ended_here, undefined_here}
+use Rattle.parser.proofs.Openings.{only_none}
+use Rattle.parser.proofs.Meeting.{met-as, met-refused}
+use Rattle.parser.proofs.Turns.{at_first, variable-read, closed-here, ended_here, refused_here}
 use Rattle.parser.proofs.Turns.{few_used, roomy-here, enclosable-here, opened-here, ready-inside}
 use Rattle.parser.proofs.Nesting.{ready-opened, group-enters, nested_stops, group-read, body-read}
 use Rattle.parser.proofs.Nesting.{last-few, went_on, roomy_after, joinable-after}
@@ -24,121 +26,85 @@ group-shape_of-store t c = c.sequence.ensures.same.as_long
 pub group-returns : goal.group-returns
 group-returns t c = group-enters c.requires.0 (omega arith) _ c.sequence.ensures
 
-pub sequence-loop-index-init : goal.sequence-loop-index-init
-sequence-loop-index-init t c = at_first _ _ _ _ _ _ _ _ c.requires
+pub sequence-loop-token-init : goal.sequence-loop-token-init
+sequence-loop-token-init t c = at_first _ _ _ _ _ _ _ _ c.requires
 
 pub sequence-token_at-requires : goal.sequence-token_at-requires
 sequence-token_at-requires t c =
-    let here = c.loop-index.invariant.reaches.step in
-    (c.requires.clean, here.placed, here.valid, opened-here c.loop-index.invariant c.requires)
+    let here = c.loop-token.invariant.reaches.step in
+    (c.requires.clean, here.placed, here.valid, opened-here c.loop-token.invariant c.requires)
 
 pub sequence-with_variable-read-requires : goal.sequence-with_variable-read-requires
 sequence-with_variable-read-requires t c =
-    let so_far = c.loop-index.invariant in
+    let so_far = c.loop-token.invariant in
     (roomy-here so_far c.requires, enclosable-here so_far c.requires, few_used so_far c.requires)
 
-pub sequence-loop-index-smaller-in-Index : goal.sequence-loop-index-smaller-in-Index
-sequence-loop-index-smaller-in-Index t c =
-    let met = rw c.in-Index.is at c.token_at.ensures in
+pub sequence-loop-token-smaller-in-Index : goal.sequence-loop-token-smaller-in-Index
+sequence-loop-token-smaller-in-Index t c =
+    let met = met-as _ _ _ _ c.token_at.ensures c.in_ok-token.was c.in-Index.is in
     omega (arith, met.moved, met.step.placed.inside)
 
-pub sequence-loop-index-preserved-in-Index : goal.sequence-loop-index-preserved-in-Index
-sequence-loop-index-preserved-in-Index t c =
-    let met = rw c.in-Index.is at c.token_at.ensures in
-    variable-read c.loop-index.invariant met c.with_variable-read.ensures
+pub sequence-loop-token-preserved-in-Index : goal.sequence-loop-token-preserved-in-Index
+sequence-loop-token-preserved-in-Index t c =
+    let met = met-as _ _ _ _ c.token_at.ensures c.in_ok-token.was c.in-Index.is in
+    variable-read c.loop-token.invariant met c.with_variable-read.ensures
 
-pub sequence-group-went-requires : goal.sequence-group-went-requires
-sequence-group-went-requires t c =
-    let met = rw c.in-Opening.is at c.token_at.ensures in
-    let here = c.loop-index.invariant.reaches.step in (
+pub sequence-returns-in_err-token : goal.sequence-returns-in_err-token
+sequence-returns-in_err-token t c =
+    let p = err_from_is_err_and c.from_residual.result c.from_residual.ensures.1 in
+    rw (p.1, p.2) (refused_here c.loop-token.invariant (met-refused _ _ _ _ c.token_at.ensures c.in_err-token.was))
+
+pub sequence-group-requires : goal.sequence-group-requires
+sequence-group-requires t c =
+    let met = met-as _ _ _ _ c.token_at.ensures c.in_ok-token.was c.in-Open.is in
+    let here = c.loop-token.invariant.reaches.step in (
       omega (arith, c.decreases, met.moved, here.forward, met.step.placed.inside),
-      (ready-inside c.loop-index.invariant c.requires met.step, met.inside),
+      (ready-inside c.loop-token.invariant c.requires met.step, met.inside),
     )
 
-pub sequence-shape_of-stack-in-Stopped : goal.sequence-shape_of-stack-in-Stopped
-sequence-shape_of-stack-in-Stopped t c =
-    c.group-went.ensures.kept.as_long ∙ c.loop-index.invariant.kept.as_long
-
-pub sequence-shape_of-store-in-Stopped : goal.sequence-shape_of-store-in-Stopped
-sequence-shape_of-store-in-Stopped t c =
-    c.group-went.ensures.same.as_long ∙ c.loop-index.invariant.same.as_long
-
-pub sequence-returns-in-Stopped : goal.sequence-returns-in-Stopped
-sequence-returns-in-Stopped t c =
-    let met = rw c.in-Opening.is at c.token_at.ensures in
-    nested_stops c.loop-index.invariant met c.in-Stopped.is c.group-went.ensures
+pub sequence-returns-in_err-went-in-Open : goal.sequence-returns-in_err-went-in-Open
+sequence-returns-in_err-went-in-Open t c =
+    let met = met-as _ _ _ _ c.token_at.ensures c.in_ok-token.was c.in-Open.is in
+    let r = c.from_residual-in_err-went-in-Open in
+    let p = err_from_is_err_and r.result r.ensures.1 in
+    rw (p.1, p.2) (nested_stops c.loop-token.invariant met c.in_err-went-in-Open.was c.group.ensures)
 
 pub sequence-with_abstraction-requires : goal.sequence-with_abstraction-requires
 sequence-with_abstraction-requires t c =
-    let met = rw c.in-Opening.is at c.token_at.ensures in
-    let so_far = c.loop-index.invariant in
-    let went = c.in-On.is in
-    let group = c.group-went.ensures in
-    let few = last-few so_far met went group c.requires in
-    (roomy_after so_far met went group c.requires, joinable-after so_far met went group, few)
+    let met = met-as _ _ _ _ c.token_at.ensures c.in_ok-token.was c.in-Open.is in
+    let so_far = c.loop-token.invariant in
+    let went = c.in_ok-went-in-Open.was in
+    let few = last-few so_far met went c.group.ensures c.requires in
+    (roomy_after so_far met went c.group.ensures c.requires, joinable-after so_far met went c.group.ensures, few)
 
-pub sequence-shape_of-stack-then-w-ne0 : goal.sequence-shape_of-stack-then-w-ne0
-sequence-shape_of-stack-then-w-ne0 t c =
-    c.group-went.ensures.kept.as_long ∙ c.loop-index.invariant.kept.as_long
-
-pub sequence-shape_of-store-then-w-ne0 : goal.sequence-shape_of-store-then-w-ne0
-sequence-shape_of-store-then-w-ne0 t c =
-    c.with_abstraction.ensures.adds.same.as_long ∙ c.group-went.ensures.same.as_long ∙
-    c.loop-index.invariant.same.as_long
-
-pub sequence-returns-then-w-ne0 : goal.sequence-returns-then-w-ne0
-sequence-returns-then-w-ne0 t c =
-    let met = rw c.in-Opening.is at c.token_at.ensures in
-    body-read c.loop-index.invariant met c.in-On.is c.group-went.ensures c.if-w-ne0.true
-    c.with_abstraction.ensures c.came.ensures
+pub sequence-returns-in-Some : goal.sequence-returns-in-Some
+sequence-returns-in-Some t c =
+    let met = met-as _ _ _ _ c.token_at.ensures c.in_ok-token.was c.in-Open.is in
+    body-read c.loop-token.invariant met c.in_ok-went-in-Open.was c.group.ensures c.in-Some.is
+    c.with_abstraction.ensures
 
 pub sequence-joined-read-requires : goal.sequence-joined-read-requires
 sequence-joined-read-requires t c =
-    let met = rw c.in-Opening.is at c.token_at.ensures in
-    let so_far = c.loop-index.invariant in
-    let went = c.in-On.is in
-    let group = c.group-went.ensures in
-    (roomy_after so_far met went group c.requires, joinable-after so_far met went group)
+    let met = met-as _ _ _ _ c.token_at.ensures c.in_ok-token.was c.in-Open.is in
+    let so_far = c.loop-token.invariant in
+    let went = c.in_ok-went-in-Open.was in
+    (roomy_after so_far met went c.group.ensures c.requires, joinable-after so_far met went c.group.ensures)
 
-pub sequence-loop-index-smaller : goal.sequence-loop-index-smaller
-sequence-loop-index-smaller t c =
-    let met = rw c.in-Opening.is at c.token_at.ensures in
-    omega (arith, went_on c.loop-index.invariant met c.in-On.is c.group-went.ensures)
+pub sequence-loop-token-smaller : goal.sequence-loop-token-smaller
+sequence-loop-token-smaller t c =
+    let met = met-as _ _ _ _ c.token_at.ensures c.in_ok-token.was c.in-Open.is in
+    omega (arith, went_on c.loop-token.invariant met c.in_ok-went-in-Open.was c.group.ensures)
 
-pub sequence-loop-index-preserved : goal.sequence-loop-index-preserved
-sequence-loop-index-preserved t c =
-    let met = rw c.in-Opening.is at c.token_at.ensures in
-    group-read c.loop-index.invariant met c.in-On.is c.group-went.ensures c.if-w-ne0.false
-    c.joined-read.ensures
+pub sequence-loop-token-preserved : goal.sequence-loop-token-preserved
+sequence-loop-token-preserved t c =
+    let met = met-as _ _ _ _ c.token_at.ensures c.in_ok-token.was c.in-Open.is in
+    group-read c.loop-token.invariant met c.in_ok-went-in-Open.was c.group.ensures
+    (only_none _ c.in_default.not-Some) c.joined-read.ensures
 
-pub sequence-returns-in-Closing : goal.sequence-returns-in-Closing
-sequence-returns-in-Closing t c =
-    closed-here c.loop-index.invariant (rw c.in-Closing.is at c.token_at.ensures)
-    c.came-in-Closing.ensures
+pub sequence-returns-in-Close : goal.sequence-returns-in-Close
+sequence-returns-in-Close t c =
+    closed-here c.loop-token.invariant (met-as _ _ _ _ c.token_at.ensures c.in_ok-token.was c.in-Close.is)
 
 pub sequence-returns-in-End : goal.sequence-returns-in-End
 sequence-returns-in-End t c =
-    ended_here c.loop-index.invariant (rw c.in-End.is at c.token_at.ensures)
-    c.came-in-End.ensures
-
-pub sequence-returns-in-Undefined : goal.sequence-returns-in-Undefined
-sequence-returns-in-Undefined t c =
-    undefined_here c.loop-index.invariant (rw c.in-Undefined.is at c.token_at.ensures)
-
-pub sequence-shape_of-stack-in-Closing : goal.sequence-shape_of-stack-in-Closing
-sequence-shape_of-stack-in-Closing t c = c.loop-index.invariant.kept.as_long
-
-pub sequence-shape_of-store-in-Closing : goal.sequence-shape_of-store-in-Closing
-sequence-shape_of-store-in-Closing t c = c.loop-index.invariant.same.as_long
-
-pub sequence-shape_of-stack-in-End : goal.sequence-shape_of-stack-in-End
-sequence-shape_of-stack-in-End t c = c.loop-index.invariant.kept.as_long
-
-pub sequence-shape_of-store-in-End : goal.sequence-shape_of-store-in-End
-sequence-shape_of-store-in-End t c = c.loop-index.invariant.same.as_long
-
-pub sequence-shape_of-stack-in-Undefined : goal.sequence-shape_of-stack-in-Undefined
-sequence-shape_of-stack-in-Undefined t c = c.loop-index.invariant.kept.as_long
-
-pub sequence-shape_of-store-in-Undefined : goal.sequence-shape_of-store-in-Undefined
-sequence-shape_of-store-in-Undefined t c = c.loop-index.invariant.same.as_long
+    ended_here c.loop-token.invariant (met-as _ _ _ _ c.token_at.ensures c.in_ok-token.was c.in-End.is)

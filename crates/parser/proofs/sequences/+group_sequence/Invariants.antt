@@ -11,9 +11,9 @@ decreases-group l = 2 * (length l.text.now - l.from.at) + 1
 abbrev pub decreases-sequence : goal.decreases-sequence
 decreases-sequence l = 2 * (length l.text.now - l.from.at)
 
-abbrev pub invariant-sequence-loop-index : goal.invariant-sequence-loop-index
-invariant-sequence-loop-index l =
+abbrev pub invariant-sequence-loop-token : goal.invariant-sequence-loop-token
+invariant-sequence-loop-token l =
     SoFar (notation_of l.notation) l.text l.initial.stack l.count l.initial.store l.cap l.initial.here l.base l.stack l.store l.here l.read
 
-abbrev pub decreases-sequence-loop-index : goal.decreases-sequence-loop-index
-decreases-sequence-loop-index l = length l.text - l.here.at
+abbrev pub decreases-sequence-loop-token : goal.decreases-sequence-loop-token
+decreases-sequence-loop-token l = length l.text - l.here.at

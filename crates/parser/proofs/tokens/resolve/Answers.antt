@@ -1,48 +1,41 @@
 -- `parser::tokens::resolve` meets its contract: the binders are passed one by one, from the innermost.
-use mathlib.Core.Path.{sym, ◌∙◌}
-use native.Mathlib.Omega.{arith}
-use Rattle.parser.proofs.Meeting.{looks_first, looked_all, looks_past-group, looks_past-binder, looked_up}
+use Rattle.std.proofs.Common.{◌≡◌, ◌-◌, sym, ◌∙◌, arith, take, None}
+use Rattle.std.proofs.lemmas.Iterator.Adapters.{YieldsList-from_rev_slice}
+use Rattle.std.proofs.lemmas.Iterator.Consumers.{YieldsList-turn, YieldsList-end}
+use Rattle.parser.proofs.Meeting.{looks_first, looked_all, looks_past-group, looks_past-binder, looked_up, given_next, one_fewer, none_left}
 use Rattle.parser.proofs.tokens.resolve.Goals as goal
 
-pub loop-left-init : goal.loop-left-init
-loop-left-init c = looks_first _ _ _ _
-
-pub bounds-stack-left : goal.bounds-stack-left
-bounds-stack-left c =
-    omega (arith, c.loop-left-test.true, c.loop-left.invariant.few, c.requires.2.few, c.requires.2.as_long)
-
-pub same_name-requires : goal.same_name-requires
-same_name-requires c = (
-  c.requires.0,
-  c.requires.1,
-  rw c.unpack.ensures
-      (c.requires.2.inside _ (omega (arith, c.loop-left-test.true, c.loop-left.invariant.few))),
-)
+pub loop-open-init : goal.loop-open-init
+loop-open-init c =
+    let e : c.args.count - 0 ≡ c.args.count = omega arith in rw e (looks_first _ _ _ _)
 
 pub returns-then-same_name : goal.returns-then-same_name
 returns-then-same_name c =
-    looked_up c.loop-left.invariant c.loop-left-test.true c.if-w-ne0.true
-    (rw c.unpack.ensures at (sym c.same_name.ensures ∙ c.if-same_name.true))
+    let y = YieldsList-from_rev_slice (take c.args.count c.args.stack.now) cc in
+    let t = YieldsList-turn y c.loop-open.yielded _ c.loop-open.yielded_by _ _ c.in-Some.open c.in-Some.is c.next.ensures.steps in
+    let (some_left, is) = given_next _ _ _ None _ (omega (arith, c.requires.2.few, c.requires.2.as_long)) t in
+    looked_up c.loop-open.invariant some_left (is ∙ c.in-Some-open.is) (rw c.name.ensures at (sym c.same_name.ensures ∙ c.if-same_name.true))
 
-pub overflow_add-index : goal.overflow_add-index
-overflow_add-index c =
-    omega (arith, c.loop-left.invariant.low, c.requires.2.few)
+pub loop-open-preserved-in-Some-open : goal.loop-open-preserved-in-Some-open
+loop-open-preserved-in-Some-open c =
+    let y = YieldsList-from_rev_slice (take c.args.count c.args.stack.now) cc in
+    let t = YieldsList-turn y c.loop-open.yielded _ c.loop-open.yielded_by _ _ c.in-Some.open c.in-Some.is c.next.ensures.steps in
+    let (some_left, is) = given_next _ _ _ None _ (omega (arith, c.requires.2.few, c.requires.2.as_long)) t in
+    one_fewer c.args.count c.loop-open.yielded c.in-Some.open
+    (looks_past-binder c.loop-open.invariant some_left (is ∙ c.in-Some-open.is)
+    (rw c.name.ensures at (sym c.same_name.ensures ∙ c.if-same_name.false)))
 
-pub loop-left-smaller-then-w-ne0 : goal.loop-left-smaller-then-w-ne0
-loop-left-smaller-then-w-ne0 c =
-    omega (arith, c.loop-left-test.true)
-
-pub loop-left-preserved-then-w-ne0 : goal.loop-left-preserved-then-w-ne0
-loop-left-preserved-then-w-ne0 c =
-    looks_past-binder c.loop-left.invariant c.loop-left-test.true c.if-w-ne0.true
-    (rw c.unpack.ensures at (sym c.same_name.ensures ∙ c.if-same_name.false))
-
-pub loop-left-smaller : goal.loop-left-smaller
-loop-left-smaller c = omega (arith, c.loop-left-test.true)
-
-pub loop-left-preserved : goal.loop-left-preserved
-loop-left-preserved c =
-    looks_past-group c.loop-left.invariant c.loop-left-test.true c.if-w-ne0.false
+pub loop-open-preserved : goal.loop-open-preserved
+loop-open-preserved c =
+    let y = YieldsList-from_rev_slice (take c.args.count c.args.stack.now) cc in
+    let t = YieldsList-turn y c.loop-open.yielded _ c.loop-open.yielded_by _ _ c.in-Some.open c.in-Some.is c.next.ensures.steps in
+    let (some_left, is) = given_next _ _ _ None _ (omega (arith, c.requires.2.few, c.requires.2.as_long)) t in
+    one_fewer c.args.count c.loop-open.yielded c.in-Some.open
+    (looks_past-group c.loop-open.invariant some_left (is ∙ c.in_default.is))
 
 pub returns : goal.returns
-returns c = looked_all c.loop-left.invariant c.loop-left-test.false
+returns c =
+    let y = YieldsList-from_rev_slice (take c.args.count c.args.stack.now) cc in
+    let t = YieldsList-end y c.loop-open.yielded _ c.loop-open.yielded_by _ _ c.in-None.is c.next.ensures.steps in
+    looked_all c.loop-open.invariant (none_left c.args.stack.now c.args.count c.loop-open.yielded t.1
+    (omega (arith, c.requires.2.few, c.requires.2.as_long)))

@@ -1,34 +1,17 @@
 -- `parser::tokens::token_at` meets its contract: what each word meets is a law of `Meeting`.
-use Rattle.parser.proofs.Meeting.{meets-number, meets-name, meets_undefined, meets-left, meets-binder}
-use Rattle.parser.proofs.Meeting.{meets-right, meets_end, never_invalid, place-fits}
+use Rattle.parser.proofs.Meeting.{meets-number, meets-name, meets_undefined, meets-left, meets-binder, place-fits}
+use Rattle.parser.proofs.Meeting.{meets-right, meets_end, never_invalid}
 use Rattle.parser.proofs.tokens.token_at.Goals as goal
 
-pub resolve-index-requires : goal.resolve-index-requires
-resolve-index-requires c =
+pub resolve-requires : goal.resolve-requires
+resolve-requires c =
     (c.requires.0, rw c.in-Named.is at c.next-step.ensures.0.names, c.requires.3)
-
-pub returns-then-index-eq0 : goal.returns-then-index-eq0
-returns-then-index-eq0 c =
-    let told = c.next-step.ensures.0 in
-    meets_undefined c.requires.2 told.placed told.forward _ _ c.resolve-index.ensures
-    (rw c.in-Named.is at told.tells) c.if-index-eq0.true
-
-pub pack-requires : goal.pack-requires
-pack-requires c =
-    place-fits c.requires.0 (rw c.in-Binder.is at c.next-step.ensures.0.names)
 
 pub returns-in-Number : goal.returns-in-Number
 returns-in-Number c =
     let told = c.next-step.ensures.0 in
     meets-number c.requires.2 told.placed told.forward _
     (rw c.in-Number.is at c.next-step.ensures.1) (rw c.in-Number.is at told.tells)
-
-pub returns-else-index-eq0 : goal.returns-else-index-eq0
-returns-else-index-eq0 c =
-    let told = c.next-step.ensures.0 in
-    meets-name c.requires.2 told.placed told.forward _ _ c.resolve-index.ensures
-    (rw c.in-Named.is at told.tells) c.if-index-eq0.false
-    (rw c.in-Named.is at c.next-step.ensures.1)
 
 pub returns-in-Left : goal.returns-in-Left
 returns-in-Left c =
@@ -39,10 +22,9 @@ returns-in-Left c =
 pub returns-in-Binder : goal.returns-in-Binder
 returns-in-Binder c =
     let told = c.next-step.ensures.0 in
-    meets-binder c.requires.2 told.placed told.forward _
-    (rw c.in-Binder.is at c.next-step.ensures.1) c.requires.0
-    (rw c.in-Binder.is at c.next-step.ensures.0.names) c.pack.ensures
-    (rw c.in-Binder.is at told.tells)
+    rw c.named.ensures (meets-binder c.requires.2 told.placed told.forward _
+    (rw c.in-Binder.is at c.next-step.ensures.1) (rw c.in-Binder.is at told.names).1
+    (rw c.in-Binder.is at told.tells))
 
 pub returns-in-Right : goal.returns-in-Right
 returns-in-Right c =
@@ -55,8 +37,22 @@ returns-in-End c =
     meets_end c.requires.2 told.placed told.forward (rw c.in-End.is at told.tells)
     (c.next-step.ensures.2 c.in-End.is)
 
-pub returns-in-Invalid : goal.returns-in-Invalid
-returns-in-Invalid c =
+pub returns-in_default : goal.returns-in_default
+returns-in_default c =
     let told = c.next-step.ensures.0 in
-    absurd
-    (never_invalid c.requires.2 c.requires.0 told.placed (rw c.in-Invalid.is at told.tells))
+    meets_undefined c.requires.2 told.placed told.forward _ c.resolve.ensures
+    (rw c.in-Named.is at told.tells) c.in_default.is
+
+pub returns-in-Some : goal.returns-in-Some
+returns-in-Some c =
+    let told = c.next-step.ensures.0 in
+    meets-name c.requires.2 told.placed told.forward _ c.resolve.ensures
+    (rw c.in-Named.is at told.tells) c.in-Some.is (rw c.in-Named.is at c.next-step.ensures.1)
+
+pub unreachable-requires : goal.unreachable-requires
+unreachable-requires c =
+    let told = c.next-step.ensures.0 in
+    never_invalid c.requires.2 c.requires.0 told.placed (rw c.in-Invalid.is at told.tells)
+
+pub named-requires : goal.named-requires
+named-requires c = place-fits c.requires.0 (rw c.in-Binder.is at c.next-step.ensures.0.names)

@@ -1,6 +1,7 @@
 -- `printer::gauging::gauge_part` meets its contract: at each head it is a law of `Gauged`. The room falls at each node.
+use Rattle.std.specs.Prelude.{Some}
 use Prim.Native.Nat.{ℕ}
-use mathlib.Core.Path.{◌≡◌, sym, ◌∙◌}
+use mathlib.Core.Path.{◌≡◌, sym, ap, ◌∙◌}
 use native.Mathlib.Omega.{arith}
 use lib.ListN.{drop}
 use Rattle.term.specs.Heads.{head_in}
@@ -12,16 +13,16 @@ use Rattle.printer.proofs.gauging.+gauge_part.Goals.{In-Abstraction, In-Applicat
 
 -- the head in each arm
 var-head : (t : ℕ) (c : In-Variable t)
-    → head_in (drop c.loop-room.at c.args.s.now) ≡ Variable c.in-Variable.index
-var-head t c = sym c.head_at.ensures ∙ c.in-Variable.is
+    → head_in (drop c.loop-room.at c.args.s.now) ≡ Some (Variable c.in-Variable.index)
+var-head t c = sym c.head_at.ensures ∙ c.in-Some.is ∙ ap Some c.in-Variable.is
 
 lam-head : (t : ℕ) (c : In-Abstraction t)
-    → head_in (drop c.loop-room.at c.args.s.now) ≡ Abstraction
-lam-head t c = sym c.head_at.ensures ∙ c.in-Abstraction.is
+    → head_in (drop c.loop-room.at c.args.s.now) ≡ Some Abstraction
+lam-head t c = sym c.head_at.ensures ∙ c.in-Some.is ∙ ap Some c.in-Abstraction.is
 
 app-head : (t : ℕ) (c : In-Application t)
-    → head_in (drop c.loop-room.at c.args.s.now) ≡ Application
-app-head t c = sym c.head_at.ensures ∙ c.in-Application.is
+    → head_in (drop c.loop-room.at c.args.s.now) ≡ Some Application
+app-head t c = sym c.head_at.ensures ∙ c.in-Some.is ∙ ap Some c.in-Application.is
 
 pub loop-room-init : goal.loop-room-init
 loop-room-init t c = at_first _ _ _ _ _ _ _ _ _ c.requires
@@ -55,5 +56,5 @@ loop-room-preserved t c =
     c.groups_application.ensures c.pair_room-in-Application.ensures c.gap_room.ensures
     c.gauge_part-at.ensures c.if-at-eq0.false
 
-pub returns-in-Nothing : goal.returns-in-Nothing
-returns-in-Nothing t c = no_term _ _ _ _ _ _ _ _ _
+pub returns-in_default : goal.returns-in_default
+returns-in_default t c = no_term _ _ _ _ _ _ _ _ _
