@@ -10,14 +10,14 @@ use Rattle.calculus.specs.Bounds.{output_per_node}
 use Rattle.calculus.specs.Bytes.{encode}
 use Rattle.calculus.specs.Refusal.{refused}
 use Rattle.calculus.specs.Runs as calculus
-use Rattle.calculus.specs.Outcomes.{checked, run_on, laid_over}
+use Rattle.calculus.specs.Outcomes.{checked, run_on, stored_run, laid_over}
 use Rattle.calculus.proofs.Putting.{Puts, laid}
 use Rattle.calculus.proofs.Sizes.{length-encode, nine_per_node}
 use Rattle.term.specs.Answers.{refusal_of}
 use Rattle.term.specs.declared.Refusal.{Refusal}
 use Rattle.nodes.specs.Answers.{run_told}
 use Rattle.nodes.specs.Working.{Works}
-use Rattle.nodes.specs.declared.runs.Run.TheVariants.{Refused}
+use Rattle.std.specs.Prelude.{Result, Ok, Err}
 
 -- however it ended
 pub ends-stored : (cap : ℕ) {to : ℕ} {out after : List ℕ} (u : Term) → nodes u ≤ cap
@@ -31,6 +31,6 @@ ends-stored cap {out = out} u few enough written end =
 -- the input's refusal takes the place of all steps
 pub input_refused : (cap : ℕ) (s : List ℕ) (go : Term → calculus.Run Term) {out store : List ℕ} {why : Refusal}
     → checked cap s ≡ refused (refusal_of why)
-    → Works (run_on (checked cap s) go) out store (Refused 0 why) out store
+    → Works (stored_run (run_on (checked cap s) go) out) store (run_told (Err (record { steps = 0; why = why }))) out store
 unfolding run_told
 input_refused cap s go e = record { stores = rw e; as_long = refl }

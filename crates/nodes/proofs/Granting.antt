@@ -13,13 +13,13 @@ use Rattle.calculus.specs.Refusal as calculus
 use Rattle.calculus.specs.Refusal.{Answer, given, refused, ◌then◌, kept_if, outside_bounds, too_little_room}
 use Rattle.calculus.specs.Outcomes.{cap_allowed, suffice, cleared, lent}
 use Rattle.calculus.proofs.Tests.{both, in_interval}
-use Rattle.term.specs.Answers.{refusal_of}
+use Rattle.term.specs.Answers.{refusal_of, told}
 use Rattle.term.specs.declared.Refusal.{Refusal}
 use Rattle.term.specs.declared.Refusal.TheVariants.{OutsideBounds, TooLittleRoom}
-use Rattle.nodes.specs.Answers.{granted_told, granting}
+use Rattle.nodes.specs.Answers.{granting}
 use Rattle.nodes.specs.Lending.{Lent}
-use Rattle.nodes.specs.declared.lending.Granted.{Granted}
-use Rattle.nodes.specs.declared.lending.Granted.TheVariants.{Cap, Refused}
+use Rattle.nodes.specs.Working.{Works}
+use Rattle.std.specs.Prelude.{Result, Ok, Err}
 
 -- what is lent may be lent on, whatever stands in the store by then
 pub lent_on : {cap : ℕ} {out store mid : List ℕ} → Lent cap out store → length mid ≡ length store → Lent cap out mid
@@ -27,25 +27,25 @@ lent_on known long = record { in_bounds = known.in_bounds; output = known.output
 
 -- THE CODE'S TESTS
 module _ (cap output room : ℕ) where
-  pub cap-zero : cap < 1 → granted_told (Refused OutsideBounds) ≡ granting cap output room
-  unfolding granted_told granting
+  pub cap-zero : cap < 1 → told {A = ℕ} (Err OutsideBounds) ≡ granting cap output room
+  unfolding granting
   cap-zero h = rw (lt-leb 1 cap h)
 
-  pub cap-too_great : most_nodes < cap → granted_told (Refused OutsideBounds) ≡ granting cap output room
-  unfolding granted_told granting
+  pub cap-too_great : most_nodes < cap → told {A = ℕ} (Err OutsideBounds) ≡ granting cap output room
+  unfolding granting
   cap-too_great h = rw (le-leb 1 cap (omega arith), lt-leb cap most_nodes h)
 
   module _ (some : 1 ≤ cap) (in_bounds : cap ≤ most_nodes) where
     pub output_too_little : output < output_per_node * cap
-        → granted_told (Refused TooLittleRoom) ≡ granting cap output room
-    unfolding granted_told granting
+        → told {A = ℕ} (Err TooLittleRoom) ≡ granting cap output room
+    unfolding granting
     output_too_little h =
         rw (le-leb 1 cap some, le-leb cap most_nodes in_bounds, lt-leb (output_per_node * cap) output h)
 
     module _ (enough : output_per_node * cap ≤ output) where
       pub room_too_little : room < room_per_node * cap
-          → granted_told (Refused TooLittleRoom) ≡ granting cap output room
-      unfolding granted_told granting
+          → told {A = ℕ} (Err TooLittleRoom) ≡ granting cap output room
+      unfolding granting
       room_too_little h =
           rw (
             le-leb 1 cap some,
@@ -54,8 +54,8 @@ module _ (cap output room : ℕ) where
             lt-leb (room_per_node * cap) room h,
           )
 
-      pub cap_granted : room_per_node * cap ≤ room → granted_told (Cap cap) ≡ granting cap output room
-      unfolding granted_told granting
+      pub cap_granted : room_per_node * cap ≤ room → told {A = ℕ} (Ok cap) ≡ granting cap output room
+      unfolding granting
       cap_granted h =
           rw (
             le-leb 1 cap some,
@@ -89,10 +89,9 @@ module _ (cap : ℕ) (out room : List ℕ) where
     refused_by {why = why} little e = let same : why ≡ too_little_room = cc in rw same
     refused_by passed e = let never : ◌≡◌ {A = ℕ} 0 1 = cc in absurd (omega arith)
 
-    pub not_granted : {g : Granted} {why : Refusal} → granted_told g ≡ granting cap (length out) (length room)
-        → g ≡ Refused why
+    pub not_granted : {g : Result ℕ Refusal} {why : Refusal} → told g ≡ granting cap (length out) (length room)
+        → g ≡ Err why
         → (refuse (refusal_of why), out, room) ≡ lent refuse (cap_allowed cap) (suffice cap out room) cap done out room
-    unfolding granted_told
     not_granted e is = refused_by by_tests (rw is at e)
 
   -- WHAT PASSES
@@ -101,9 +100,8 @@ module _ (cap : ℕ) (out room : List ℕ) where
     pub allowed : cap_allowed cap ≡ true
     pub suffices : suffice cap out room ≡ true
 
-  pub granted : {g : Granted} {most : ℕ} → granted_told g ≡ granting cap (length out) (length room) → g ≡ Cap most
+  pub granted : {g : Result ℕ Refusal} {most : ℕ} → told g ≡ granting cap (length out) (length room) → g ≡ Ok most
       → Passed most
-  unfolding granted_told
   granted e is = passed_by by_tests refl refl (rw is at e)
     where
       passed_by : {in_bounds enough : Bool} {a : Answer ℕ} {most : ℕ} → Granting cap in_bounds enough a
@@ -145,13 +143,13 @@ module _ (cap : ℕ) (out room : List ℕ) where
 
     -- THE WORK, after which the room is cleared
     pub answered : {A : Type 0} (refuse : calculus.Refusal → A) {done : A × List ℕ} {answer : A}
-        {after left : List ℕ} (store' : List ℕ)
-        → (answer, after) ≡ done → length store' ≡ length (take (room_per_node * most) room)
+        {after store' left : List ℕ}
+        → Works done (take (room_per_node * most) room) answer after store'
         → left ≡ cleared most (store' ++ drop (room_per_node * most) room)
         → (answer, after, left) ≡ lent refuse (cap_allowed cap) (suffice cap out room) cap done out room
-    answered refuse store' works long is =
+    answered refuse {store' = store'} works is =
         rw (passes.allowed, passes.suffices)
-        (ap₂ (λ p left. (p.0, p.1, left)) works
-        (is ∙ cleared-again store' (long ∙ first-lent.room) ∙ ap (λ c. cleared c room) passes.same))
+        (ap₂ (λ p left. (p.0, p.1, left)) works.stores
+        (is ∙ cleared-again store' (works.as_long ∙ first-lent.room) ∙ ap (λ c. cleared c room) passes.same))
 
 pub ruleset granting_tests = (cap-zero, cap-too_great, output_too_little, room_too_little, cap_granted)

@@ -1,18 +1,14 @@
 -- What the answers of `grant` and of runs mean by document 01.
-use Rattle.std.specs.Prelude.{ℕ, ◌*◌, ◌&&◌, leb}
+use Rattle.std.specs.Prelude.{ℕ, ◌*◌, ◌&&◌, leb, Result, Ok, Err}
 use Rattle.calculus.specs.Bounds.{output_per_node, room_per_node}
-use Rattle.calculus.specs.Refusal.{Answer, given, refused, ◌then◌, kept_if, outside_bounds, too_little_room}
+use Rattle.calculus.specs.Refusal.{Answer, ◌then◌, kept_if, outside_bounds, too_little_room}
 use Rattle.calculus.specs.Runs as calculus
 use Rattle.calculus.specs.Outcomes.{cap_allowed}
 use Rattle.term.specs.Answers.{refusal_of}
-use Rattle.nodes.specs.declared.lending.Granted.{Granted}
-use Rattle.nodes.specs.declared.lending.Granted.TheVariants.{Cap, Refused}
+use Rattle.nodes.specs.declared.runs.End.{End}
+use Rattle.nodes.specs.declared.runs.End.TheVariants.{Finished, Unfinished}
 use Rattle.nodes.specs.declared.runs.Run.{Run}
-use Rattle.nodes.specs.declared.runs.Run.TheVariants as run
-
-unfoldable pub granted_told : Granted → Answer ℕ
-granted_told (Cap most) = given most
-granted_told (Refused why) = refused (refusal_of why)
+use Rattle.nodes.specs.declared.runs.Stopped.{Stopped}
 
 -- 1, then 2
 unfoldable pub granting : (cap output room : ℕ) → Answer ℕ
@@ -20,7 +16,11 @@ granting cap output room =
     kept_if (cap_allowed cap) outside_bounds cap then
     kept_if (leb (output_per_node * cap) output && leb (room_per_node * cap) room) too_little_room
 
-unfoldable pub run_told : Run → calculus.Run ℕ
-run_told (run.Finished steps length) = calculus.finished steps length
-run_told (run.Unfinished steps length) = calculus.unfinished steps length
-run_told (run.Refused steps why) = calculus.refused_after steps (refusal_of why)
+-- a run that comes to something after so many steps
+abbrev pub ended : {A : Type 0} → End → ℕ → A → calculus.Run A
+ended Finished steps reached = calculus.finished steps reached
+ended Unfinished steps reached = calculus.unfinished steps reached
+
+unfoldable pub run_told : Result Run Stopped → calculus.Run ℕ
+run_told (Ok run) = ended run.end run.steps run.length
+run_told (Err stopped) = calculus.refused_after stopped.steps (refusal_of stopped.why)
