@@ -15,14 +15,15 @@ use Rattle.calculus.proofs.Running.{accepted_by}
 use Rattle.term.specs.Answers.{refusal_of}
 use Rattle.term.specs.declared.Refusal.{Refusal}
 use Rattle.term.specs.declared.Refusal.TheVariants.{TooHigh, TooManyNodes, IndexTooGreat}
+use Rattle.std.specs.Prelude.{Ok, Err}
+use Rattle.nodes.specs.declared.runs.End.TheVariants.{Finished, Unfinished}
 use Rattle.engine.specs.Judging.{judge_at, Tells, tells_high, tells_many, tells_great}
 use Rattle.engine.specs.Running.{Stops, rested, stepped, spent, full, refuses}
 use Rattle.engine.specs.Stepping as stepping
-use Rattle.engine.specs.Stepping.{Rooted, Ended, Steppable, Found, Steps, finishes, leaves}
+use Rattle.engine.specs.Stepping.{Rooted, Ended, Steppable, Found, Steps, comes}
 use Rattle.engine.specs.States.{State, standing}
 use Rattle.engine.specs.declared.Stop.{Stop}
 use Rattle.engine.specs.declared.Stop.TheVariants as stopped
-use Rattle.engine.specs.declared.Reached.TheVariants.{Finished, Unfinished, Refused}
 use Rattle.engine.proofs.Parts.{judge_root}
 use Rattle.engine.proofs.Phases.{rests}
 
@@ -107,25 +108,27 @@ module _ {t : Term} {cap : ℕ} {store : List ℕ} {used : ℕ} (can : Steppable
           few = omega (arith, at.size);
         }
 
-    pub at_rest : s.stop ≡ stopped.Rested → Steps o t limit cap store (Finished (limit - s.budget) s.node) after
+    pub at_rest : s.stop ≡ stopped.Rested → Steps o t limit cap store
+        (Ok (record { end = Finished; steps = limit - s.budget; node = s.node })) after
     at_rest is =
         let within : limit - s.budget ≤ limit = omega arith in
         record {
-          reaches = finishes (ends_finished within way (rests ended.stops is)) found;
+          reaches = comes (ends_finished within way (rests ended.stops is)) found;
           as_long = ended.onward.as_long;
         }
 
-    pub at_limit : s.stop ≡ stopped.Spent → Steps o t limit cap store (Unfinished (limit - s.budget) s.node) after
+    pub at_limit : s.stop ≡ stopped.Spent → Steps o t limit cap store
+        (Ok (record { end = Unfinished; steps = limit - s.budget; node = s.node })) after
     at_limit is =
         let (none_left, (u, next)) = step_left ended.stops is in
         let all : limit - s.budget ≡ limit = omega arith in
         record {
-          reaches = rw all (leaves (ends_unfinished (rw all at way) next) found);
+          reaches = rw all (comes (ends_unfinished (rw all at way) next) found);
           as_long = ended.onward.as_long;
         }
 
     refused_for : (why : Refusal) → refusal_at s.stop ≡ some (refusal_of why)
-        → Steps o t limit cap store (Refused (limit - s.budget) why) after
+        → Steps o t limit cap store (Err (record { steps = limit - s.budget; why = why })) after
     refused_for why is =
         let (left, (u, next, refused)) = step-refused ended.stops is in
         let short : limit - s.budget < limit = omega (arith, budget-left) in
@@ -134,15 +137,16 @@ module _ {t : Term} {cap : ℕ} {store : List ℕ} {used : ℕ} (can : Steppable
           as_long = ended.onward.as_long;
         }
 
-    pub at_height : s.stop ≡ stopped.TooHigh → Steps o t limit cap store (Refused (limit - s.budget) TooHigh) after
+    pub at_height : s.stop ≡ stopped.TooHigh → Steps o t limit cap store
+        (Err (record { steps = limit - s.budget; why = TooHigh })) after
     at_height is = refused_for TooHigh (ap refusal_at is)
 
     pub at_nodes : s.stop ≡ stopped.TooManyNodes
-        → Steps o t limit cap store (Refused (limit - s.budget) TooManyNodes) after
+        → Steps o t limit cap store (Err (record { steps = limit - s.budget; why = TooManyNodes })) after
     at_nodes is = refused_for TooManyNodes (ap refusal_at is)
 
     pub at_index : s.stop ≡ stopped.IndexTooGreat
-        → Steps o t limit cap store (Refused (limit - s.budget) IndexTooGreat) after
+        → Steps o t limit cap store (Err (record { steps = limit - s.budget; why = IndexTooGreat })) after
     at_index is = refused_for IndexTooGreat (ap refusal_at is)
 
     -- the other two are no ends

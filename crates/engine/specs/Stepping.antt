@@ -1,20 +1,20 @@
 -- What steps on a whole term ask and give.
-use Rattle.std.specs.Prelude.{ℕ, ◌+◌, ◌*◌, ◌-◌, ◌≤◌, ◌<◌, ◌≡◌, List, length, take}
+use Rattle.std.specs.Prelude.{ℕ, ◌+◌, ◌*◌, ◌-◌, ◌≤◌, ◌<◌, ◌≡◌, List, length, take, Result, Ok, Err}
 use Rattle.calculus.specs.Term.{Term, nodes, height}
 use Rattle.calculus.specs.Bounds.{most_nodes, most_height}
 use Rattle.calculus.specs.Orders.{Order}
 use Rattle.calculus.specs.Judging.{judge}
-use Rattle.calculus.specs.Runs.{finished, unfinished, refused_after}
+use Rattle.calculus.specs.Runs.{refused_after}
 use Rattle.calculus.specs.Ends.{Accepted, Ends}
 use Rattle.term.specs.Answers.{refusal_of}
-use Rattle.term.specs.declared.Refusal.{Refusal}
+use Rattle.nodes.specs.Answers.{ended}
 use Rattle.nodes.specs.Store.{Holds}
+use Rattle.nodes.specs.declared.runs.Stopped.{Stopped}
 use Rattle.engine.specs.Judging.{judge_at}
 use Rattle.engine.specs.Running.{started, Ran, Stops}
 use Rattle.engine.specs.States.{State}
 use Rattle.engine.specs.declared.Stop.TheVariants.{Stepped, Full}
 use Rattle.engine.specs.declared.Reached.{Reached}
-use Rattle.engine.specs.declared.Reached.TheVariants.{Finished, Unfinished, Refused}
 
 -- the node is a whole term within the bounds, among the first nodes, three for each of the cap
 pub record Rooted (t : Term) (cap : ℕ) (s : State) (store : List ℕ) : Type 0 where
@@ -72,14 +72,13 @@ pub record Found (u : Term) (cap node : ℕ) (store : List ℕ) : Type 0 where
   pub few : nodes u ≤ cap
 
 -- THE END, as the definition of a run's end has it
-pub data Reaches (o : Order) (t : Term) (limit cap : ℕ) (store : List ℕ) : Reached → Type 0 where
-  finishes : {n node : ℕ} {u : Term} → Ends (judge cap) o limit t (finished n u) → Found u cap node store
-      → Reaches o t limit cap store (Finished n node)
-  leaves : {n node : ℕ} {u : Term} → Ends (judge cap) o limit t (unfinished n u) → Found u cap node store
-      → Reaches o t limit cap store (Unfinished n node)
-  refuses : {n : ℕ} {why : Refusal} → Ends (judge cap) o limit t (refused_after n (refusal_of why))
-      → Reaches o t limit cap store (Refused n why)
+pub data Reaches (o : Order) (t : Term) (limit cap : ℕ) (store : List ℕ) : Result Reached Stopped → Type 0 where
+  comes : {r : Reached} {u : Term} → Ends (judge cap) o limit t (ended r.end r.steps u) → Found u cap r.node store
+      → Reaches o t limit cap store (Ok r)
+  refuses : {r : Stopped} → Ends (judge cap) o limit t (refused_after r.steps (refusal_of r.why))
+      → Reaches o t limit cap store (Err r)
 
-pub record Steps (o : Order) (t : Term) (limit cap : ℕ) (before : List ℕ) (r : Reached) (after : List ℕ) : Type 0 where
+pub record Steps (o : Order) (t : Term) (limit cap : ℕ) (before : List ℕ) (r : Result Reached Stopped) (after : List ℕ)
+    : Type 0 where
   pub reaches : Reaches o t limit cap after r
   pub as_long : length after ≡ length before

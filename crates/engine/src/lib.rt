@@ -13,15 +13,16 @@ ghost use Rattle.orders.specs.Orders.{order_of};
 ghost use Rattle.engine.specs.States.{State, standing, told, restarted};
 ghost use Rattle.engine.specs.Stepping.{Rooted, RunsFirst, Renewed, Ended, Steppable, Steps};
 
+use nodes::runs::{End, Stopped};
 use orders::Order;
 use term::Refusal;
 
-// How the steps end: how many were made, and the node of the term reached or why there is none.
-#[derive(Clone, Copy)]
-pub enum Reached {
-    Finished { steps: u64, node: usize },
-    Unfinished { steps: u64, node: usize },
-    Refused { steps: u64, why: Refusal },
+// How the steps end: how many were made, and the node of the term reached.
+#[derive(Clone, Copy, Debug, PartialEq, Eq)]
+pub struct Reached {
+    pub end: End,
+    pub steps: u64,
+    pub node: usize,
 }
 
 // Why a run stops: no step is left; a contraction was made here; a step is left, and the budget is spent; the room is
@@ -92,7 +93,7 @@ fn run_all(cap: usize, order: Order, store: &mut [u64], work: &mut Work) -> At
 }
 
 // At most so many steps, of the term that is the last of so many nodes.
-pub fn steps(cap: usize, order: Order, limit: u64, store: &mut [u64], from: usize) -> Reached
+pub fn steps(cap: usize, order: Order, limit: u64, store: &mut [u64], from: usize) -> Result<Reached, Stopped>
     requires { (t : Term) × Steppable t cap store.old from }
     ensures { (t : Term) → Steppable t cap store.old from
         → Steps (order_of order) t limit cap store.old result store.new }
@@ -106,20 +107,28 @@ pub fn steps(cap: usize, order: Order, limit: u64, store: &mut [u64], from: usiz
     let steps = limit - work.budget;
     let node = end.node;
     match end.stop {
-        Stop::Rested => Reached::Finished { steps, node },
-        Stop::Spent => Reached::Unfinished { steps, node },
-        Stop::TooHigh => Reached::Refused {
+        Stop::Rested => Ok(Reached {
+            end: End::Finished,
+            steps,
+            node,
+        }),
+        Stop::Spent => Ok(Reached {
+            end: End::Unfinished,
+            steps,
+            node,
+        }),
+        Stop::TooHigh => Err(Stopped {
             steps,
             why: Refusal::TooHigh,
-        },
-        Stop::TooManyNodes => Reached::Refused {
+        }),
+        Stop::TooManyNodes => Err(Stopped {
             steps,
             why: Refusal::TooManyNodes,
-        },
-        Stop::IndexTooGreat => Reached::Refused {
+        }),
+        Stop::IndexTooGreat => Err(Stopped {
             steps,
             why: Refusal::IndexTooGreat,
-        },
+        }),
         Stop::Stepped | Stop::Full => unreachable!(),
     }
 }

@@ -17,7 +17,7 @@ use Rattle.term.specs.Answers.{refusal_of}
 use Rattle.term.specs.declared.Refusal.{Refusal}
 use Rattle.nodes.specs.Answers.{run_told}
 use Rattle.nodes.specs.Working.{Works}
-use Rattle.std.specs.Prelude.{Result, Ok, Err}
+use Rattle.std.specs.Prelude.{Err}
 
 -- however it ended
 pub ends-stored : (cap : ℕ) {to : ℕ} {out after : List ℕ} (u : Term) → nodes u ≤ cap
@@ -29,8 +29,8 @@ ends-stored cap {out = out} u few enough written end =
     (written.stored ∙ laid (encode u) out fits)
 
 -- the input's refusal takes the place of all steps
-pub input_refused : (cap : ℕ) (s : List ℕ) (go : Term → calculus.Run Term) {out store : List ℕ} {why : Refusal}
+pub input_refused : (cap : ℕ) (s : List ℕ) (go : Term → calculus.Run Term) (why : Refusal) {out store : List ℕ}
     → checked cap s ≡ refused (refusal_of why)
     → Works (stored_run (run_on (checked cap s) go) out) store (run_told (Err (record { steps = 0; why = why }))) out store
 unfolding run_told
-input_refused cap s go e = record { stores = rw e; as_long = refl }
+input_refused cap s go why e = record { stores = rw e; as_long = refl }

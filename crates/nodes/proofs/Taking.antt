@@ -1,6 +1,7 @@
 -- Reading bytes of which nothing is known: what the calls ask, and what each `return` comes to.
 use Prim.Native.Nat.{ℕ, ◌+◌, ◌-◌, ◌*◌, ◌≤◌, ◌<◌, max}
 use mathlib.Core.Path.{◌≡◌}
+use Rattle.std.specs.Prelude.{Some, None}
 use mathlib.Core.List.{List}
 use native.Mathlib.Omega.{arith}
 use lib.ListN.{length, get_or, take, drop}
@@ -23,7 +24,7 @@ use Rattle.nodes.proofs.Keeping.{same_refl, same_then, holds_kept, says}
 module _ {s : List ℕ} {at used : ℕ} {room after : List ℕ} where
   pub at_variable : {i made : ℕ} → AllBytes s → get_or s at 0 ≡ 1 → at + 9 ≤ length s
       → i ≡ from_digits 256 (take 8 (drop (at + 1) s)) → made ≡ used + 1 → Same room after used
-      → Holds after (var i) used → Reads s at room used (used + 1) 1 (at + 9) made after
+      → Holds after (var i) used → Reads s at room used (used + 1) 1 (Some (at + 9)) made after
   unfolding nodes height size
   at_variable {i} bytes is fits index made same new =
       let last : used + 1 - 1 ≡ used = omega arith in
@@ -31,7 +32,7 @@ module _ {s : List ℕ} {at used : ℕ} {room after : List ℕ} where
         same = same;
         grows = omega arith;
         few = omega arith;
-        read = λ some. record {
+        read = record {
           term = var i;
           stands = rw index (variable-stands bytes is fits);
           passed = omega arith;
@@ -41,66 +42,26 @@ module _ {s : List ℕ} {at used : ℕ} {room after : List ℕ} where
         };
       })
 
-  -- which any greater bounds allow
-  pub within_more : {next made cap deep : ℕ} → used < cap → 0 < deep → Reads s at room used (used + 1) 1 next made after
-      → Reads s at room used cap deep next made after
-  within_more more some reads = record {
-    same = reads.same;
-    grows = reads.grows;
-    few = omega (arith, reads.few);
-    read = λ found.
-        let r = reads.read found in
-        record {
-          term = r.term;
-          stands = r.stands;
-          passed = r.passed;
-          low = omega (arith, r.low);
-          count = r.count;
-          holds = r.holds;
-        };
-  }
-
 module _ {room : List ℕ} {used cap deep : ℕ} (asked : Readable room used cap deep) where
-  pub nothing_read : {s : List ℕ} {at : ℕ} → Reads s at room used cap deep 0 used room
+  pub nothing_read : {s : List ℕ} {at : ℕ} → Reads s at room used cap deep None used room
   nothing_read = record {
     same = same_refl room used;
     grows = omega arith;
     few = asked.begun;
-    read = λ found. absurd (omega arith);
+    read = tt;
   }
-
-  -- with no more nodes and levels the same is asked
-  pub asks_less : {few levels : ℕ} → used ≤ few → few ≤ cap → levels ≤ deep → Readable room used few levels
-  asks_less begun fewer lower = record {
-    fits = omega (arith, asked.fits);
-    few = omega (arith, asked.few);
-    begun = begun;
-    low = omega (arith, asked.low);
-  }
-
--- A PART is read with a node and a level less
-pub first-missing : {s : List ℕ} {at part cap used deep levels left next : ℕ} {room mid : List ℕ} → used < cap
-    → Reads s part room used (cap - 1) levels next left mid
-    → Reads s at room used cap deep 0 left mid
-first-missing more reads = record {
-  same = reads.same;
-  grows = reads.grows;
-  few = omega (arith, reads.few);
-  read = λ found. absurd (omega arith);
-}
 
 -- the first part was read
 pub record Begun (s : List ℕ) (at : ℕ) (room : List ℕ) (used cap deep first left : ℕ) (mid : List ℕ) : Type 0 where
   pub asked : Readable room used cap deep
   pub more : used < cap
   pub some : 0 < deep
-  pub reads : Reads s (at + 1) room used (cap - 1) (deep - 1) first left mid
-  pub found : 0 < first
+  pub reads : Reads s (at + 1) room used (cap - 1) (deep - 1) (Some first) left mid
 
 module _ {s : List ℕ} {at used cap deep first left : ℕ} {room mid : List ℕ}
     (one : Begun s at room used cap deep first left mid) where
   part : Read s (at + 1) used (deep - 1) first left mid
-  part = one.reads.read one.found
+  part = one.reads.read
 
   pub some-made : 0 < left
   some-made = omega (arith, part.count, nodes_positive part.term)
@@ -120,7 +81,7 @@ module _ {s : List ℕ} {at used cap deep first left : ℕ} {room mid : List ℕ
 
   pub at_abstraction : {made : ℕ} {after : List ℕ} → get_or s at 0 ≡ 2 → made ≡ left + 1 → Same mid after left
       → ((t : Term) → Holds mid t (left - 1) → Holds after (lam t) left)
-      → Reads s at room used cap deep first made after
+      → Reads s at room used cap deep (Some first) made after
   unfolding nodes height size
   at_abstraction is made same new =
       let last : left + 1 - 1 ≡ left = omega arith in
@@ -128,7 +89,7 @@ module _ {s : List ℕ} {at used cap deep first left : ℕ} {room mid : List ℕ
         same = same_then one.reads.grows one.reads.same same;
         grows = omega (arith, one.reads.grows);
         few = omega (arith, one.reads.few);
-        read = λ found. record {
+        read = record {
           term = lam part.term;
           stands = abstraction-stands is part.stands;
           passed = omega (arith, part.passed);
@@ -139,80 +100,64 @@ module _ {s : List ℕ} {at used cap deep first left : ℕ} {room mid : List ℕ
       })
 
   -- AN APPLICATION
-  pub next_asks : Readable mid left (cap - 1) (deep - 1)
-  next_asks = record {
-    fits = omega (arith, one.asked.fits, one.reads.same.as_long);
-    few = omega (arith, one.asked.few);
-    begun = one.reads.few;
-    low = omega (arith, one.asked.low);
-  }
+  module _ {next top : ℕ} {end : List ℕ}
+      (two : Reads s first mid left (cap - 1) (deep - 1) (Some next) top end) where
+    right : Read s first left (deep - 1) next top end
+    right = two.read
 
-  module _ {next top : ℕ} {end : List ℕ} (two : Reads s first mid left (cap - 1) (deep - 1) next top end) where
-    pub second-missing : Reads s at room used cap deep 0 top end
-    second-missing = record {
-      same = same_then one.reads.grows one.reads.same two.same;
-      grows = omega (arith, one.reads.grows, two.grows);
-      few = omega (arith, two.few);
-      read = λ found. absurd (omega arith);
-    }
+    pub more_made : 0 < top
+    more_made = omega (arith, right.count, nodes_positive right.term)
 
-    module _ (found : 0 < next) where
-      right : Read s first left (deep - 1) next top end
-      right = two.read found
+    left-kept : Holds end part.term (left - 1)
+    left-kept =
+        let positive = some-made in
+        holds_kept part.term (left - 1) two.same (omega arith) part.holds
 
-      pub more_made : 0 < top
-      more_made = omega (arith, right.count, nodes_positive right.term)
+    pub application_asks : (left - 1 < top) × (top - 1 < top) × (top < 4294967296) × (2 * top + 2 ≤ length end)
+        × (nodes_in (word end (left - 1)) + nodes_in (word end (top - 1)) < 262143)
+        × (max (height_in (word end (left - 1))) (height_in (word end (top - 1))) < 1023)
+    application_asks =
+        let l = says end part.term (left - 1) left-kept in
+        let r = says end right.term (top - 1) right.holds in
+        let positive = more_made in
+        let begun = some-made in
+        let grown = two.grows in
+        let enough = two.few in (
+          omega arith,
+          omega arith,
+          omega (arith, one.asked.few),
+          omega (arith, one.asked.fits, one.reads.same.as_long, two.same.as_long),
+          omega (arith, one.asked.few, part.count, right.count, l.nodes_are, r.nodes_are),
+          omega (arith, one.asked.low, part.low, right.low, l.height_is, r.height_is),
+        )
 
-      left-kept : Holds end part.term (left - 1)
-      left-kept =
-          let positive = some-made in
-          holds_kept part.term (left - 1) two.same (omega arith) part.holds
-
-      pub application_asks : (left - 1 < top) × (top - 1 < top) × (top < 4294967296) × (2 * top + 2 ≤ length end)
-          × (nodes_in (word end (left - 1)) + nodes_in (word end (top - 1)) < 262143)
-          × (max (height_in (word end (left - 1))) (height_in (word end (top - 1))) < 1023)
-      application_asks =
-          let l = says end part.term (left - 1) left-kept in
-          let r = says end right.term (top - 1) right.holds in
-          let positive = more_made in
-          let begun = some-made in
-          let grown = two.grows in
-          let enough = two.few in (
-            omega arith,
-            omega arith,
-            omega (arith, one.asked.few),
-            omega (arith, one.asked.fits, one.reads.same.as_long, two.same.as_long),
-            omega (arith, one.asked.few, part.count, right.count, l.nodes_are, r.nodes_are),
-            omega (arith, one.asked.low, part.low, right.low, l.height_is, r.height_is),
-          )
-
-      pub at_application : {made : ℕ} {after : List ℕ} → get_or s at 0 ≡ 3 → made ≡ top + 1 → Same end after top
-          → ((t u : Term) → Holds end t (left - 1) → Holds end u (top - 1) → Holds after (app t u) top)
-          → Reads s at room used cap deep next made after
-      unfolding nodes height size
-      at_application is made same new =
-          let last : top + 1 - 1 ≡ top = omega arith in
-          let beside : Stands s (at + 1 + size part.term) right.term = rw (← part.passed) right.stands in
-          rw made (record {
-            same = same_then one.reads.grows one.reads.same (same_then two.grows two.same same);
-            grows = omega (arith, one.reads.grows, two.grows);
-            few = omega (arith, two.few);
-            read = λ found. record {
-              term = app part.term right.term;
-              stands = application-stands is part.stands beside;
-              passed = omega (arith, part.passed, right.passed);
-              low = omega (arith, part.low, right.low);
-              count = omega (arith, part.count, right.count);
-              holds = rw last (new part.term right.term left-kept right.holds);
-            };
-          })
+    pub at_application : {made : ℕ} {after : List ℕ} → get_or s at 0 ≡ 3 → made ≡ top + 1 → Same end after top
+        → ((t u : Term) → Holds end t (left - 1) → Holds end u (top - 1) → Holds after (app t u) top)
+        → Reads s at room used cap deep (Some next) made after
+    unfolding nodes height size
+    at_application is made same new =
+        let last : top + 1 - 1 ≡ top = omega arith in
+        let beside : Stands s (at + 1 + size part.term) right.term = rw (← part.passed) right.stands in
+        rw made (record {
+          same = same_then one.reads.grows one.reads.same (same_then two.grows two.same same);
+          grows = omega (arith, one.reads.grows, two.grows);
+          few = omega (arith, two.few);
+          read = record {
+            term = app part.term right.term;
+            stands = application-stands is part.stands beside;
+            passed = omega (arith, part.passed, right.passed);
+            low = omega (arith, part.low, right.low);
+            count = omega (arith, part.count, right.count);
+            holds = rw last (new part.term right.term left-kept right.holds);
+          };
+        })
 
 -- ALL OF AN INPUT
 pub whole-read : {cap : ℕ} {s room after : List ℕ} {used next made : ℕ} → AllBytes s
-    → Reads s 0 room used (used + cap) most_height next made after → 0 < next → next ≡ length s
+    → Reads s 0 room used (used + cap) most_height (Some next) made after → next ≡ length s
     → Taken cap s used made after
-whole-read {cap} {s} bytes reads found all =
-    let r = reads.read found in
+whole-read {cap} {s} bytes reads all =
+    let r = reads.read in
     let few : nodes r.term ≤ cap = omega (arith, reads.few, r.count) in
     let (passes, small) = takes_all s r.term bytes r.stands (omega (arith, r.passed)) r.low few in
     record {

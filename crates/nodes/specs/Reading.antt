@@ -1,5 +1,5 @@
 -- What reading coded bytes of which nothing is known asks and gives.
-use Rattle.std.specs.Prelude.{ℕ, ◌+◌, ◌*◌, ◌-◌, ◌≤◌, ◌<◌, ◌≡◌, List, length}
+use Rattle.std.specs.Prelude.{ℕ, ◌+◌, ◌*◌, ◌-◌, ◌≤◌, ◌<◌, ◌≡◌, List, length, Option, IfSome}
 use Rattle.calculus.specs.Term.{Term, nodes, height}
 use Rattle.calculus.specs.Bounds.{most_nodes, most_height}
 use Rattle.calculus.proofs.Sizes.{size}
@@ -22,12 +22,13 @@ pub record Read (s : List ℕ) (at used deep next made : ℕ) (room : List ℕ) 
   pub count : made ≡ used + nodes term
   pub holds : Holds room term (made - 1)
 
--- an answer above 0 tells of such a term; in any case the nodes before are as they were
-pub record Reads (s : List ℕ) (at : ℕ) (before : List ℕ) (used cap deep next made : ℕ) (after : List ℕ) : Type 0 where
+-- an offset that is answered tells of such a term; in any case the nodes before are as they were
+pub record Reads (s : List ℕ) (at : ℕ) (before : List ℕ) (used cap deep : ℕ) (next : Option ℕ) (made : ℕ) (after : List ℕ)
+    : Type 0 where
   pub same : Same before after used
   pub grows : used ≤ made
   pub few : made ≤ cap
-  pub read : 0 < next → Read s at used deep next made after
+  pub read : IfSome next (λ next. Read s at used deep next made after)
 
 -- the whole input is a term that 10, 7 and 9 let through, and the last node made
 pub record Taken (cap : ℕ) (s : List ℕ) (used made : ℕ) (room : List ℕ) : Type 0 where

@@ -1,5 +1,5 @@
 // Coded bytes of which nothing is known, read once: nodes are made while the bytes are found to be a term.
-ghost use Rattle.std.specs.Prelude.{◌≡◌, ◌+◌, ◌*◌, ◌≤◌, ◌<◌, length, get_or};
+ghost use Rattle.std.specs.Prelude.{◌≡◌, ◌+◌, ◌*◌, ◌≤◌, ◌<◌, length, get_or, IfSome};
 ghost use Rattle.calculus.specs.Bounds.{most_nodes};
 ghost use Rattle.nodes.specs.Store.{Same};
 ghost use Rattle.nodes.specs.Reading.{Readable, Reads, Taken};
@@ -15,71 +15,67 @@ fn byte_at(s: &[u8], at: usize) -> u8
 }
 
 // The variable at an offset, unless its bytes are cut short.
-fn read_variable(s: &[u8], at: usize, room: &mut [u64], used: &mut usize) -> usize
+fn read_variable(s: &[u8], at: usize, room: &mut [u64], used: &mut usize) -> Option<usize>
     requires { (get_or s.now at 0 ≡ 1) × Readable room.old used.old (used.old + 1) 1 }
     ensures { Reads s.now at room.old used.old (used.old + 1) 1
         result used.new room.new }
 {
     if s.len() - at < 9 {
-        return 0;
+        return None;
     }
     *used = make_variable(room, *used, term::index_at(s, at + 1));
-    at + 9
+    Some(at + 9)
 }
 
 // The term at an offset, no higher than so much, becomes nodes, of which there are at most `cap` in all. The offset
-// after it is returned, or 0 if there is no such term.
+// after it is returned, if there is such a term.
 #[tactic(auto, using(crate::proofs::Taking::reading))]
-fn read(s: &[u8], at: usize, room: &mut [u64], used: &mut usize, cap: usize, height: u64) -> usize
+fn read(
+    s: &[u8],
+    at: usize,
+    room: &mut [u64],
+    used: &mut usize,
+    cap: usize,
+    height: u64,
+) -> Option<usize>
     requires { Readable room.old used.old cap height }
     ensures { Reads s.now at room.old used.old cap height
         result used.new room.new }
 {
-    let kind = byte_at(s, at);
     if height == 0 {
-        return 0;
+        return None;
     }
     if cap <= *used {
-        return 0;
+        return None;
     }
-    if kind == 1 {
-        return read_variable(s, at, room, used);
+    match byte_at(s, at) {
+        1 => read_variable(s, at, room, used),
+        2 => {
+            let next = read(s, at + 1, room, used, cap - 1, height - 1)?;
+            let body = *used;
+            *used = make_abstraction(room, body, body - 1);
+            Some(next)
+        }
+        3 => {
+            let middle = read(s, at + 1, room, used, cap - 1, height - 1)?;
+            let left = *used;
+            let next = read(s, middle, room, used, cap - 1, height - 1)?;
+            let top = *used;
+            *used = make_application(room, top, left - 1, top - 1);
+            Some(next)
+        }
+        _ => None,
     }
-    if kind < 2 {
-        return 0;
-    }
-    if 3 < kind {
-        return 0;
-    }
-    let first = read(s, at + 1, room, used, cap - 1, height - 1);
-    if first == 0 {
-        return 0;
-    }
-    let left = *used;
-    if kind == 2 {
-        *used = make_abstraction(room, left, left - 1);
-        return first;
-    }
-    let next = read(s, first, room, used, cap - 1, height - 1);
-    if next == 0 {
-        return 0;
-    }
-    let top = *used;
-    *used = make_application(room, top, left - 1, top - 1);
-    next
 }
 
-// All of an input as nodes behind those that are used. The number of the next node is returned, or 0 if the input is
-// no term, or not one within the bounds: which it is, `term::check` tells.
-pub fn read_whole(cap: usize, s: &[u8], room: &mut [u64], used: usize) -> usize
+// All of an input as nodes behind those that are used. The number of the next node is returned, if the input is a term
+// within the bounds: where it isn't, `term::check` tells why.
+pub fn read_whole(cap: usize, s: &[u8], room: &mut [u64], used: usize) -> Option<usize>
     requires { (used + cap < 4 * most_nodes) × (2 * (used + cap) ≤ length room.old) }
-    ensures { Same room.old room.new used
-        × (0 < result → Taken cap s.now used result room.new) }
+    ensures same { Same room.old room.new used }
+    ensures taken { IfSome result (λ next. Taken cap s.now used next room.new) }
 {
     let mut top = used;
-    let next = read(s, 0, room, &mut top, used + cap, MOST_HEIGHT);
-    if next == 0 {
-        return 0;
-    }
-    if next == s.len() { top } else { 0 }
+    let next = read(s, 0, room, &mut top, used + cap, MOST_HEIGHT)?;
+    if next == s.len() { Some(top) } else { None }
 }
