@@ -142,14 +142,14 @@ module _ (cap : ℕ) (out room : List ℕ) where
         ∙ ap (λ k. drop k room) (sym (length-replicate {0} {A = ℕ} (room_per_node * most) 0)))
 
     -- THE WORK, after which the room is cleared
-    pub answered : {A : Type 0} (refuse : calculus.Refusal → A) {done : A × List ℕ} {answer : A}
+    pub answered : {A : Type 0} (refuse : calculus.Refusal → A) (done : ℕ → A × List ℕ) {answer : A}
         {after store' left : List ℕ}
-        → Works done (take (room_per_node * most) room) answer after store'
+        → Works (done most) (take (room_per_node * most) room) answer after store'
         → left ≡ cleared most (store' ++ drop (room_per_node * most) room)
-        → (answer, after, left) ≡ lent refuse (cap_allowed cap) (suffice cap out room) cap done out room
-    answered refuse {store' = store'} works is =
+        → (answer, after, left) ≡ lent refuse (cap_allowed cap) (suffice cap out room) cap (done cap) out room
+    answered refuse done {store' = store'} works is =
         rw (passes.allowed, passes.suffices)
-        (ap₂ (λ p left. (p.0, p.1, left)) works.stores
+        (ap₂ (λ p left. (p.0, p.1, left)) (works.stores ∙ ap done passes.same)
         (is ∙ cleared-again store' (works.as_long ∙ first-lent.room) ∙ ap (λ c. cleared c room) passes.same))
 
 pub ruleset granting_tests = (cap-zero, cap-too_great, output_too_little, room_too_little, cap_granted)

@@ -6,16 +6,18 @@ use mathlib.Core.List.{List}
 use native.Mathlib.Omega.{arith}
 use lib.ListN.{length, get_or, take, drop}
 use Rattle.calculus.specs.Term.{Term, var, lam, app, nodes, height}
-use Rattle.calculus.specs.Bounds.{most_height}
+use Rattle.calculus.specs.Bounds.{most_nodes, most_height}
 use Rattle.calculus.specs.Numbers.{from_digits}
 use Rattle.calculus.proofs.Coding.{AllBytes}
+use Rattle.calculus.proofs.Judged.{checked-given}
 use Rattle.calculus.proofs.Measures.{nodes_positive}
-use Rattle.calculus.proofs.Sizes.{size}
+use Rattle.calculus.proofs.Sizes.{size, size_positive}
 use Rattle.term.specs.Surveys.{Stands, Admitted}
+use Rattle.term.proofs.Places.{size-within}
 use Rattle.term.proofs.Standing.{variable-stands, abstraction-stands, application-stands, takes_all}
 use Rattle.nodes.specs.Packing.{nodes_in, height_in}
 use Rattle.nodes.specs.Store.{Holds, Same, word}
-use Rattle.nodes.specs.Coded.{Loads}
+use Rattle.nodes.specs.Coded.{Loadable, Loads}
 use Rattle.nodes.specs.Reading.{Readable, Read, Reads, Taken}
 use Rattle.nodes.specs.declared.Loaded.{Loaded}
 use Rattle.nodes.proofs.Keeping.{same_refl, same_then, holds_kept, says}
@@ -166,7 +168,21 @@ whole-read {cap} {s} bytes reads all =
       holds = r.holds;
     }
 
--- a checked input that was loaded is taken too
+-- A CHECKED INPUT has room, and once it is loaded it is taken too
+pub input_asks : {cap : ℕ} {s room : List ℕ} {used : ℕ} → Admitted cap s → used + cap < 4 * most_nodes
+    → 2 * (used + cap) ≤ length room
+    → Loadable s 0 room used
+input_asks {s = s} input few fits =
+    let (_, low, small) = checked-given s input.passes in
+    record {
+      term = input.term;
+      stands = input.stands;
+      inside = omega (arith, size-within input.stands, size_positive input.term);
+      few = omega (arith, few, small);
+      fits = omega (arith, fits, small);
+      low = low;
+    }
+
 pub loaded-taken : {cap : ℕ} {s room after : List ℕ} {used : ℕ} {r : Loaded} → (input : Admitted cap s)
     → Loads s 0 room used r after
     → Taken cap s used r.used after

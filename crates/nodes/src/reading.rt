@@ -1,11 +1,15 @@
 // Coded bytes of which nothing is known, read once: nodes are made while the bytes are found to be a term.
-ghost use Rattle.std.specs.Prelude.{◌≡◌, ◌+◌, ◌*◌, ◌≤◌, ◌<◌, length, get_or, IfSome};
+ghost use Rattle.std.specs.Prelude.{◌≡◌, ◌+◌, ◌*◌, ◌≤◌, ◌<◌, length, get_or, IfSome, IfErr, IfOk};
 ghost use Rattle.calculus.specs.Bounds.{most_nodes};
+ghost use Rattle.calculus.specs.Refusal.{refused};
+ghost use Rattle.calculus.specs.Outcomes.{checked};
+ghost use Rattle.term.specs.Answers.{refusal_of};
 ghost use Rattle.nodes.specs.Store.{Same};
 ghost use Rattle.nodes.specs.Reading.{Readable, Reads, Taken};
 
-use crate::{make_abstraction, make_application, make_variable};
+use crate::{load, make_abstraction, make_application, make_variable};
 use calculus::MOST_HEIGHT;
+use term::Refusal;
 
 // The byte at an offset; after the last there are zeros, which begin no term.
 fn byte_at(s: &[u8], at: usize) -> u8
@@ -78,4 +82,19 @@ pub fn read_whole(cap: usize, s: &[u8], room: &mut [u64], used: usize) -> Option
     let mut top = used;
     let next = read(s, 0, room, &mut top, used + cap, MOST_HEIGHT)?;
     if next == s.len() { Some(top) } else { None }
+}
+
+// All of an input as nodes behind those that are used. The number of the next node is returned, or why the input is
+// refused. What is read at once has no refusal, and is walked once in place of thrice.
+pub fn load_checked(cap: usize, s: &[u8], room: &mut [u64], used: usize) -> Result<usize, Refusal>
+    requires { (used + cap < 4 * most_nodes) × (2 * (used + cap) ≤ length room.old) }
+    ensures same { Same room.old room.new used }
+    ensures refuses { IfErr result (λ why. checked cap s.now ≡ refused (refusal_of why)) }
+    ensures taken { IfOk result (λ next. Taken cap s.now used next room.new) }
+{
+    if let Some(next) = read_whole(cap, s, room, used) {
+        return Ok(next);
+    }
+    term::check(cap as u64, s)?;
+    Ok(load(s, 0, room, used).used)
 }

@@ -10,14 +10,15 @@ use lib.ListN.{length}
 use borrow.Author.Tests.{le-leb, lt-leb, leb-true}
 use Rattle.calculus.specs.Term.{Term, nodes, height, greatest_index}
 use Rattle.calculus.specs.Bounds.{most_height, greatest_number}
-use Rattle.calculus.specs.Refusal.{Answer, given, refused}
+use Rattle.calculus.specs.Refusal.{Answer, given, refused, ◌then◌}
 use Rattle.calculus.specs.Bytes.{encode}
+use Rattle.calculus.specs.Outcomes.{stored, coded}
 use Rattle.calculus.specs.Judging.{within, next_within}
 use Rattle.calculus.specs.Substitution.{contract}
 use Rattle.calculus.proofs.Putting.{laid}
 use Rattle.calculus.proofs.Sizes.{length-encode, nine_per_node}
 use Rattle.calculus.proofs.Tests.{flipped}
-use Rattle.term.specs.Answers.{refusal_of}
+use Rattle.term.specs.Answers.{refusal_of, told}
 use Rattle.term.specs.declared.Refusal.{Refusal}
 use Rattle.term.specs.declared.Refusal.TheVariants.{IndexTooGreat, TooHigh, TooManyNodes}
 use Rattle.nodes.specs.Store.{Holds}
@@ -26,15 +27,15 @@ use Rattle.substitution.specs.Placing.{Placeable, Places}
 use Rattle.substitution.specs.Weighing.{Weighable, Weighs}
 use Rattle.substitution.specs.Raising.{Made}
 use Rattle.substitution.specs.declared.weighing.Weight.{Weight}
-use Rattle.reduction.specs.Answers.{applied_told}
-use Rattle.reduction.specs.Applying.{Works, Contractible, Contracts}
-use Rattle.reduction.specs.declared.Applied.TheVariants.{Length, Refused}
+use Rattle.std.specs.Prelude.{Result, Ok, Err}
+use Rattle.nodes.specs.Working.{Works}
+use Rattle.reduction.specs.Applying.{Contractible, Contracts}
 
 -- a refusal takes the place of all that would follow
-pub refuses_there : {answer : Answer Term} (why : Refusal) (out store : List ℕ) → answer ≡ refused (refusal_of why)
-    → Works answer out store (Refused why) out store
-unfolding applied_told
-refuses_there why out store is = record { stores = rw is; as_long = refl }
+pub refuses_there : {answer : Answer Term} (why : Refusal) (out : List ℕ) {store store' : List ℕ}
+    → length store' ≡ length store → answer ≡ refused (refusal_of why)
+    → Works (stored (answer then coded) out) store (told {A = ℕ} (Err why)) out store'
+refuses_there why out long is = record { stores = rw is; as_long = long }
 
 -- WHAT A WEIGHT TELLS, whatever room was asked for
 module _ {store : List ℕ} {body argument : ℕ} {weight : Weight} (weighs : Weighs store body argument weight) where
@@ -45,30 +46,30 @@ module _ {store : List ℕ} {body argument : ℕ} {weight : Weight} (weighs : We
       flipped (leb (greatest_index (contract b a)) greatest_number) over (sym (weighs.bursts b a h k) ∙ e)
 
   module _ {cap : ℕ} {out : List ℕ} where
-    pub great_refused : weight.bursts ≡ true → Contracts cap store body argument out (Refused IndexTooGreat) store out
+    pub great_refused : weight.bursts ≡ true → Contracts cap store body argument out (Err IndexTooGreat) store out
     unfolding next_within
     great_refused over = record {
-      contracts = λ b a h k. refuses_there IndexTooGreat out store (rw (weighed b a h k over));
+      contracts = λ b a h k. refuses_there IndexTooGreat out refl (rw (weighed b a h k over));
     }
 
     pub high_refused : weight.bursts ≡ false → most_height < weight.height
-        → Contracts cap store body argument out (Refused TooHigh) store out
+        → Contracts cap store body argument out (Err TooHigh) store out
     unfolding next_within within
     high_refused small high = record {
       contracts = λ b a h k.
           let tall = weighs.height_is b a h k in
-          refuses_there TooHigh out store
+          refuses_there TooHigh out refl
           (rw (weighed b a h k small, lt-leb (height (contract b a)) most_height (omega arith)));
     }
 
     pub many_refused : weight.bursts ≡ false → weight.height ≤ most_height → cap < weight.nodes
-        → Contracts cap store body argument out (Refused TooManyNodes) store out
+        → Contracts cap store body argument out (Err TooManyNodes) store out
     unfolding next_within within
     many_refused small low many = record {
       contracts = λ b a h k.
           let tall = weighs.height_is b a h k in
           let count = weighs.nodes_are b a h k in
-          refuses_there TooManyNodes out store
+          refuses_there TooManyNodes out refl
           (rw (
             weighed b a h k small,
             le-leb (height (contract b a)) most_height (omega arith),
@@ -99,15 +100,15 @@ module _ {cap : ℕ} {store : List ℕ} {used body argument : ℕ} {out : List �
         → leb (greatest_index (contract b a)) greatest_number ≡ not over
     fine b a h k e = weighed weighs b a h k e
 
-    pub at_overflow : weight.bursts ≡ true → Contracts cap store body argument out (Refused IndexTooGreat) store out
+    pub at_overflow : weight.bursts ≡ true → Contracts cap store body argument out (Err IndexTooGreat) store out
     at_overflow over = great_refused weighs over
 
     module _ (small : weight.bursts ≡ false) where
-      pub at_height : most_height < weight.height → Contracts cap store body argument out (Refused TooHigh) store out
+      pub at_height : most_height < weight.height → Contracts cap store body argument out (Err TooHigh) store out
       at_height high = high_refused weighs small high
 
       module _ (low : weight.height ≤ most_height) where
-        pub at_nodes : cap < weight.nodes → Contracts cap store body argument out (Refused TooManyNodes) store out
+        pub at_nodes : cap < weight.nodes → Contracts cap store body argument out (Err TooManyNodes) store out
         at_nodes many = many_refused weighs small low many
 
         module _ (few : weight.nodes ≤ cap) where
@@ -145,8 +146,8 @@ module _ {cap : ℕ} {store : List ℕ} {used body argument : ℕ} {out : List �
                 }
 
             pub at_result : {to : ℕ} {after : List ℕ} → Saves mid made.node out 0 to after
-                → Contracts cap store body argument out (Length to) mid after
-            unfolding next_within within applied_told
+                → Contracts cap store body argument out (Ok to) mid after
+            unfolding next_within within
             at_result saves = record {
               contracts = λ b a h k.
                   let tall = weighs.height_is b a h k in

@@ -6,8 +6,8 @@ use native.Mathlib.Omega.{arith}
 use lib.ListN.{length}
 use Rattle.calculus.specs.Term.{Term, var, lam, app, nodes, height}
 use Rattle.calculus.specs.Bounds.{most_nodes}
-use Rattle.calculus.specs.Refusal.{refused, not_abs}
-use Rattle.calculus.specs.Outcomes.{body_of, applied}
+use Rattle.calculus.specs.Refusal.{refused, ◌then◌, not_abs}
+use Rattle.calculus.specs.Outcomes.{body_of, applied, stored, coded}
 use Rattle.calculus.proofs.Judged.{checked-given}
 use Rattle.calculus.proofs.Measures.{nodes_positive}
 use Rattle.term.specs.Surveys.{Admitted}
@@ -19,9 +19,11 @@ use Rattle.nodes.specs.Reading.{Taken}
 use Rattle.nodes.proofs.Granting.{lent_on}
 use Rattle.nodes.proofs.Keeping.{holds_kept, says}
 use Rattle.nodes.proofs.Parts.{HeldAbstraction, held-abstraction}
-use Rattle.reduction.specs.Applying.{Works, Contractible, Contracts}
-use Rattle.reduction.specs.declared.Applied.{Applied}
-use Rattle.reduction.specs.declared.Applied.TheVariants.{Refused}
+use Rattle.std.specs.Prelude.{Result, Err}
+use Rattle.term.specs.Answers.{told}
+use Rattle.term.specs.declared.Refusal.{Refusal}
+use Rattle.nodes.specs.Working.{Works}
+use Rattle.reduction.specs.Applying.{Contractible, Contracts}
 use Rattle.reduction.proofs.Applications.{no_body}
 
 -- THE FIRST INPUT leaves room for the second
@@ -85,11 +87,8 @@ module _ {cap top used : ℕ} {s u out store end : List ℕ} (both : Both cap s 
     root_no-body (lam b) h = absurd (other (says end (lam b) (top - 1) h).kind_is)
     root_no-body (app l r) h = refl
 
-    pub at_no-abstraction : Works (applied cap s u) out store (Refused NotAbs) out end
-    at_no-abstraction =
-        let works : Works (applied cap s u) out end (Refused NotAbs) out end =
-        no_body cap s u both.first both.second refl (root_no-body both.first.term both.root) in
-        record { stores = works.stores; as_long = both.long }
+    pub at_no-abstraction : Works (stored (applied cap s u then coded) out) store (told {A = ℕ} (Err NotAbs)) out end
+    at_no-abstraction = no_body cap s u both.long both.first both.second refl (root_no-body both.first.term both.root)
 
   -- THE BODY is the root's link
   module _ (is : kind_in (word end (top - 1)) ≡ 2) where
@@ -116,9 +115,9 @@ module _ {cap top used : ℕ} {s u out store end : List ℕ} (both : Both cap s 
           low_put = low';
         }
 
-    pub at_linked : {r : Applied} {store' after : List ℕ}
+    pub at_linked : {r : Result ℕ Refusal} {store' after : List ℕ}
         → Contracts cap end (link end (top - 1)) (used - 1) out r store' after
-        → Works (applied cap s u) out store r after store'
+        → Works (stored (applied cap s u then coded) out) store (told r) after store'
     unfolding applied
     at_linked contracts =
         let works = contracts.contracts held.body both.second.term held.held both.argument in

@@ -1,20 +1,16 @@
--- What is left to do after 1 and 2, and after the inputs were checked.
-use Rattle.std.specs.Prelude.{ℕ, ◌+◌, ◌≤◌, ◌<◌, ◌≡◌, List, length}
+-- What contracting two nodes asks and gives.
+use Rattle.std.specs.Prelude.{ℕ, ◌+◌, ◌≤◌, ◌<◌, ◌≡◌, List, Result}
 use Rattle.calculus.specs.Term.{Term, nodes, height}
 use Rattle.calculus.specs.Bounds.{most_height}
-use Rattle.calculus.specs.Refusal.{Answer, ◌then◌}
+use Rattle.calculus.specs.Refusal.{◌then◌}
 use Rattle.calculus.specs.Judging.{next_within}
 use Rattle.calculus.specs.Substitution.{contract}
 use Rattle.calculus.specs.Outcomes.{stored, coded}
 use Rattle.nodes.specs.Store.{Holds}
 use Rattle.nodes.specs.Lending.{Lent}
-use Rattle.reduction.specs.Answers.{applied_told}
-use Rattle.reduction.specs.declared.Applied.{Applied}
-
--- the answer, and what it leaves in the output, are those of a term that is given or refused; the store is as long
-pub record Works (gives : Answer Term) (before store : List ℕ) (r : Applied) (after store' : List ℕ) : Type 0 where
-  pub stores : (applied_told r, after) ≡ stored (gives then coded) before
-  pub as_long : length store' ≡ length store
+use Rattle.nodes.specs.Working.{Works}
+use Rattle.term.specs.Answers.{told}
+use Rattle.term.specs.declared.Refusal.{Refusal}
 
 -- two nodes that are terms within the bounds, and room for one more
 pub record Contractible (cap : ℕ) (store : List ℕ) (used body argument : ℕ) (out : List ℕ) : Type 0 where
@@ -32,7 +28,7 @@ pub record Contractible (cap : ℕ) (store : List ℕ) (used body argument : ℕ
   pub low_put : height put_term ≤ most_height
 
 -- whatever terms the two are
-pub record Contracts (cap : ℕ) (store : List ℕ) (body argument : ℕ) (before : List ℕ) (r : Applied)
+pub record Contracts (cap : ℕ) (store : List ℕ) (body argument : ℕ) (before : List ℕ) (r : Result ℕ Refusal)
     (store' after : List ℕ) : Type 0 where
   pub contracts : (b a : Term) → Holds store b body → Holds store a argument
-      → Works (next_within cap (contract b a)) before store r after store'
+      → Works (stored (next_within cap (contract b a) then coded) before) store (told r) after store'

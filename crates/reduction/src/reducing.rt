@@ -3,7 +3,8 @@ ghost use Rattle.std.specs.Prelude.{◌≡◌};
 ghost use Rattle.calculus.specs.Term.{Term};
 ghost use Rattle.calculus.specs.Judging.{judge};
 ghost use Rattle.calculus.specs.Runs.{run};
-ghost use Rattle.calculus.specs.Outcomes.{limit_allowed, reduced};
+ghost use Rattle.calculus.specs.Outcomes.{stored_run, limit_allowed, reduced};
+ghost use Rattle.nodes.specs.Answers.{run_told};
 ghost use Rattle.nodes.specs.Lending.{Lent};
 ghost use Rattle.nodes.specs.Working.{Works};
 ghost use Rattle.orders.specs.Orders.{order_of};
@@ -11,10 +12,9 @@ ghost use Rattle.engine.specs.Stepping.{Steppable};
 ghost use Rattle.reduction.specs.Answers.{Reduces};
 
 use calculus::{MOST_STEPS, ROOM_PER_NODE};
-use engine::Reached;
-use nodes::lending::{Granted, grant};
-use nodes::reading::read_whole;
-use nodes::runs::Run;
+use nodes::lending::grant;
+use nodes::reading::load_checked;
+use nodes::runs::{Run, Stopped};
 use orders::Order;
 use term::Refusal;
 
@@ -26,57 +26,35 @@ fn step_on(
     out: &mut [u8],
     store: &mut [u64],
     used: usize,
-) -> Run
+) -> Result<Run, Stopped>
     requires { Lent cap out.old store.old × ((t : Term) × Steppable t cap store.old used) }
     ensures { (t : Term) → Steppable t cap store.old used
-        → Works (run (judge cap) (order_of order) limit t)
-        out.old store.old result out.new store.new }
+        → Works (stored_run (run (judge cap) (order_of order) limit t) out.old)
+        store.old (run_told result) out.new store.new }
 {
-    match engine::steps(cap, order, limit, store, used) {
-        Reached::Finished { steps, node } => {
-            let length = nodes::save(store, node, out, 0);
-            Run::Finished { steps, length }
-        }
-        Reached::Unfinished { steps, node } => {
-            let length = nodes::save(store, node, out, 0);
-            Run::Unfinished { steps, length }
-        }
-        Reached::Refused { steps, why } => Run::Refused { steps, why },
-    }
+    let reached = engine::steps(cap, order, limit, store, used)?;
+    let length = nodes::save(store, reached.node, out, 0);
+    Ok(Run {
+        end: reached.end,
+        steps: reached.steps,
+        length,
+    })
 }
 
-// The input's refusals, then the steps.
-fn check_first(
+// All that comes after 1 and 2: the input's refusals, then the steps.
+fn work(
     cap: usize,
     order: Order,
     limit: u64,
     s: &[u8],
     out: &mut [u8],
     store: &mut [u64],
-) -> Run
+) -> Result<Run, Stopped>
     requires { Lent cap out.old store.old }
-    ensures { Works (reduced (order_of order) limit cap s.now)
-        out.old store.old result out.new store.new }
+    ensures { Works (stored_run (reduced (order_of order) limit cap s.now) out.old)
+        store.old (run_told result) out.new store.new }
 {
-    match term::check(cap as u64, s) {
-        Err(why) => Run::Refused { steps: 0, why },
-        Ok(_) => {
-            let read = nodes::load(s, 0, store, 0);
-            step_on(cap, order, limit, out, store, read.used)
-        }
-    }
-}
-
-// All that comes after 1 and 2. An input that is read at once has no refusal, and is walked once in place of thrice.
-fn work_on(cap: usize, order: Order, limit: u64, s: &[u8], out: &mut [u8], store: &mut [u64]) -> Run
-    requires { Lent cap out.old store.old }
-    ensures { Works (reduced (order_of order) limit cap s.now)
-        out.old store.old result out.new store.new }
-{
-    let used = read_whole(cap, s, store, 0);
-    if used == 0 {
-        return check_first(cap, order, limit, s, out, store);
-    }
+    let used = load_checked(cap, s, store, 0)?;
     step_on(cap, order, limit, out, store, used)
 }
 
@@ -91,29 +69,29 @@ pub fn allowed(limit: u64) -> bool
 }
 
 // 1, 2, then the work, after which the room is cleared.
-pub fn reduce(order: Order, limit: u64, cap: u64, s: &[u8], out: &mut [u8], room: &mut [u64]) -> Run
+pub fn reduce(
+    order: Order,
+    limit: u64,
+    cap: u64,
+    s: &[u8],
+    out: &mut [u8],
+    room: &mut [u64],
+) -> Result<Run, Stopped>
     ensures { Reduces order limit cap s.now out.old room.old
         result out.new room.new }
 {
     if !allowed(limit) {
-        return Run::Refused {
-            steps: 0,
-            why: Refusal::OutsideBounds,
-        };
+        return Err(Stopped::from(Refusal::OutsideBounds));
     }
-    match grant(cap, out.len(), room.len()) {
-        Granted::Refused(why) => Run::Refused { steps: 0, why },
-        Granted::Cap(most) => {
-            let answer = work_on(
-                most,
-                order,
-                limit,
-                s,
-                out,
-                &mut room[..ROOM_PER_NODE * most],
-            );
-            nodes::clear(room, most);
-            answer
-        }
-    }
+    let most = grant(cap, out.len(), room.len())?;
+    let answer = work(
+        most,
+        order,
+        limit,
+        s,
+        out,
+        &mut room[..ROOM_PER_NODE * most],
+    );
+    nodes::clear(room, most);
+    answer
 }

@@ -1,55 +1,66 @@
--- `reduction::work` meets its contract: inputs that were read are contracted as nodes, and any others are checked.
+-- `reduction::work` meets its contract: two inputs that are loaded are contracted as nodes.
 use mathlib.Core.Path.{sym, ◌∙◌}
 use native.Mathlib.Omega.{arith}
+use Rattle.std.proofs.lemmas.Result.{err_from_is_err_and}
+use Rattle.std.specs.Prelude.{Ok, Err, IfOk, IfErr}
+use Rattle.nodes.specs.Reading.{Taken}
+use Rattle.reduction.proofs.Applications.{first-refused, second-refused}
 use Rattle.reduction.proofs.ReadInputs.{second_asks, Both, both_read, at_no-abstraction, linked_asks, at_linked}
 use Rattle.reduction.proofs.work.Goals as goal
-use Rattle.reduction.proofs.work.Goals.{Else-used-eq0}
+use Rattle.reduction.proofs.work.Goals.{In_ok-top, In_ok-used}
 
--- what the two readings come to
-both : (c : Else-used-eq0) → let a = c.args in
-    Both a.cap a.s.now a.u.now a.out.now a.store.now c.read_whole-top.result
-    c.read_whole-used.result c.read_whole-used.new.room
+-- the abstraction is loaded
+first : (c : In_ok-top) → Taken c.args.cap c.args.s.now 0 c.in_ok-top.top c.load_checked.new.room
+first c = rw c.in_ok-top.was at c.load_checked.ensures.taken
+
+-- and the argument behind it
+both : (c : In_ok-used) → let a = c.args in
+    Both a.cap a.s.now a.u.now a.out.now a.store.now c.in_ok-top.top c.in_ok-used.used c.load_checked-2.new.room
 both c =
-    let (same, read) = c.read_whole-top.ensures in
-    let (same', read') = c.read_whole-used.ensures in
-    both_read c.requires same.as_long (read (omega (arith, c.if-top-eq0.false))) same'
-    (read' (omega (arith, c.if-used-eq0.false)))
+    both_read c.requires c.load_checked.ensures.same.as_long (rw c.in_ok-top.was at c.load_checked.ensures.taken)
+    c.load_checked-2.ensures.same (rw c.in_ok-used.was at c.load_checked-2.ensures.taken)
 
-pub read_whole-used-requires : goal.read_whole-used-requires
-read_whole-used-requires c =
-    let (same, read) = c.read_whole-top.ensures in
-    second_asks c.requires same.as_long (read (omega (arith, c.if-top-eq0.false)))
+pub returns-in_err-top : goal.returns-in_err-top
+returns-in_err-top c =
+    let p = err_from_is_err_and c.from_residual.result c.from_residual.ensures.1 in
+    rw (p.1, p.2) (first-refused _ _ _ c.load_checked.ensures.same.as_long _
+    (rw c.in_err-top.was at c.load_checked.ensures.refuses))
+
+pub load_checked-requires-2 : goal.load_checked-requires-2
+load_checked-requires-2 c =
+    second_asks c.requires c.load_checked.ensures.same.as_long (first (goal.at.load_checked-requires-2 c).In_ok-top)
+
+pub returns-in_err-used : goal.returns-in_err-used
+returns-in_err-used c =
+    let p = err_from_is_err_and c.from_residual-in_err-used.result c.from_residual-in_err-used.ensures.1 in
+    rw (p.1, p.2) (second-refused _ _ _ (c.load_checked-2.ensures.same.as_long ∙ c.load_checked.ensures.same.as_long)
+    (first (goal.at.returns-in_err-used c).In_ok-top).input _
+    (rw c.in_err-used.was at c.load_checked-2.ensures.refuses))
+
+pub overflow_sub-root : goal.overflow_sub-root
+overflow_sub-root c = omega (arith, both (goal.at.overflow_sub-root c).In_ok-used)
 
 pub overflow_mul-root : goal.overflow_mul-root
-overflow_mul-root c = omega (arith, both (goal.at.overflow_mul-root c).Else-used-eq0)
+overflow_mul-root c = omega (arith, both (goal.at.overflow_mul-root c).In_ok-used)
 
 pub offset_bounds-store-root : goal.offset_bounds-store-root
-offset_bounds-store-root c = omega (arith, both (goal.at.offset_bounds-store-root c).Else-used-eq0)
+offset_bounds-store-root c = omega (arith, both (goal.at.offset_bounds-store-root c).In_ok-used)
 
 pub bounds-store-root : goal.bounds-store-root
-bounds-store-root c = omega (arith, both (goal.at.bounds-store-root c).Else-used-eq0)
+bounds-store-root c = omega (arith, both (goal.at.bounds-store-root c).In_ok-used)
 
-pub overflow_mul-body : goal.overflow_mul-body
-overflow_mul-body c = omega (arith, both (goal.at.overflow_mul-body c).Else-used-eq0)
-
-pub overflow_add-body : goal.overflow_add-body
-overflow_add-body c = omega (arith, both (goal.at.overflow_add-body c).Else-used-eq0)
-
-pub offset_bounds-store-root-then-kind_of-eq2 : goal.offset_bounds-store-root-then-kind_of-eq2
-offset_bounds-store-root-then-kind_of-eq2 c = omega (arith, both (goal.at.offset_bounds-store-root-then-kind_of-eq2 c).Else-used-eq0)
-
-pub bounds-store-root-then-kind_of-eq2 : goal.bounds-store-root-then-kind_of-eq2
-bounds-store-root-then-kind_of-eq2 c = omega (arith, both (goal.at.bounds-store-root-then-kind_of-eq2 c).Else-used-eq0)
+pub overflow_sub-used : goal.overflow_sub-used
+overflow_sub-used c = omega (arith, both (goal.at.overflow_sub-used c).In_ok-used)
 
 pub contract-requires : goal.contract-requires
 contract-requires c =
-    linked_asks (both (goal.at.contract-requires c).Else-used-eq0) (sym c.kind_of.ensures ∙ c.if-kind_of-eq2.true)
+    linked_asks (both (goal.at.contract-requires c).In_ok-used) (sym c.kind_of.ensures ∙ c.if-kind_of-eq2.true)
 
 pub returns-then-kind_of-eq2 : goal.returns-then-kind_of-eq2
 returns-then-kind_of-eq2 c =
-    at_linked (both (goal.at.returns-then-kind_of-eq2 c).Else-used-eq0) (sym c.kind_of.ensures ∙ c.if-kind_of-eq2.true)
+    at_linked (both (goal.at.returns-then-kind_of-eq2 c).In_ok-used) (sym c.kind_of.ensures ∙ c.if-kind_of-eq2.true)
     c.contract.ensures
 
 pub returns : goal.returns
 returns c =
-    at_no-abstraction (both (goal.at.returns c).Else-used-eq0) (λ is. c.if-kind_of-eq2.false (c.kind_of.ensures ∙ is))
+    at_no-abstraction (both (goal.at.returns c).In_ok-used) (λ is. c.if-kind_of-eq2.false (c.kind_of.ensures ∙ is))

@@ -2,43 +2,55 @@
 use mathlib.Core.Path.{sym, ◌∙◌}
 use native.Mathlib.Omega.{arith}
 use lib.Seq.{length-take-le}
-use Rattle.nodes.proofs.Granting.{Passed, granted, room_suffices, first-lent}
-use Rattle.reduction.proofs.Reductions.{limit-refused, refuses, answers}
+use Rattle.std.proofs.lemmas.Result.{err_from_is_err_and}
+use Rattle.calculus.specs.Runs.{refused_after}
+use Rattle.calculus.specs.Outcomes.{stored_run, reduced}
+use Rattle.orders.specs.Orders.{order_of}
+use Rattle.nodes.specs.Answers.{run_told}
+use Rattle.nodes.proofs.Granting.{Passed, granted, not_granted, room_suffices, first-lent, answered}
+use Rattle.reduction.proofs.Reductions.{limit-refused, in_limit}
 use Rattle.reduction.proofs.reducing.reduce.Goals as goal
-use Rattle.reduction.proofs.reducing.reduce.Goals.{In-Cap}
+use Rattle.reduction.proofs.reducing.reduce.Goals.{In_ok-most}
 
 -- what 1 and 2 let pass
-passes : (c : In-Cap) → let start = c.args in
-    Passed start.cap start.out.now start.room.now c.in-Cap.most
-passes c = granted _ _ _ c.grant.ensures c.in-Cap.is
+passes : (c : In_ok-most) → let start = c.args in
+    Passed start.cap start.out.now start.room.now c.in_ok-most.most
+passes c = granted _ _ _ c.grant.ensures c.in_ok-most.was
 
 pub returns-then-not-allowed : goal.returns-then-not-allowed
-returns-then-not-allowed c = limit-refused _ _ _ _ _ _ (sym c.allowed.ensures ∙ c.if-not-allowed.true)
+returns-then-not-allowed c =
+    rw c.from.ensures (limit-refused _ _ _ _ _ _ (sym c.allowed.ensures ∙ c.if-not-allowed.true))
+
+pub returns-in_err-most : goal.returns-in_err-most
+unfolding run_told
+returns-in_err-most c =
+    let p = err_from_is_err_and c.from_residual.result c.from_residual.ensures.1 in
+    let in_bounds = sym c.allowed.ensures ∙ c.if-not-allowed.false in
+    rw (p.1, p.2) (not_granted _ _ _ (refused_after 0) _ c.grant.ensures c.in_err-most.was
+    ∙ sym (in_limit _ _ _ _ _ _ in_bounds))
 
 pub overflow_mul-most : goal.overflow_mul-most
-overflow_mul-most c = let few = (first-lent _ _ _ (passes (goal.at.overflow_mul-most c).In-Cap)).in_bounds in omega arith
+overflow_mul-most c = let few = (first-lent _ _ _ (passes (goal.at.overflow_mul-most c).In_ok-most)).in_bounds in omega arith
 
-pub slice_bounds-work_on-end : goal.slice_bounds-work_on-end
-slice_bounds-work_on-end c = room_suffices _ _ _ (passes (goal.at.slice_bounds-work_on-end c).In-Cap)
+pub slice_bounds-work-end : goal.slice_bounds-work-end
+slice_bounds-work-end c = room_suffices _ _ _ (passes (goal.at.slice_bounds-work-end c).In_ok-most)
 
-pub slice_bounds-work_on-end-in-Cap : goal.slice_bounds-work_on-end-in-Cap
-slice_bounds-work_on-end-in-Cap c = sym (length-take-le _ _ (room_suffices _ _ _ (passes (goal.at.slice_bounds-work_on-end-in-Cap c).In-Cap)))
+pub slice_bounds-work-end-2 : goal.slice_bounds-work-end-2
+slice_bounds-work-end-2 c = sym (length-take-le _ _ (room_suffices _ _ _ (passes (goal.at.slice_bounds-work-end-2 c).In_ok-most)))
 
-pub work_on-answer-requires : goal.work_on-answer-requires
-work_on-answer-requires c = first-lent _ _ _ (passes (goal.at.work_on-answer-requires c).In-Cap)
+pub work-answer-requires : goal.work-answer-requires
+work-answer-requires c = first-lent _ _ _ (passes (goal.at.work-answer-requires c).In_ok-most)
 
 pub clear-requires : goal.clear-requires
 clear-requires c =
-    let enough = room_suffices _ _ _ (passes (goal.at.clear-requires c).In-Cap) in
-    let few = (first-lent _ _ _ (passes (goal.at.clear-requires c).In-Cap)).in_bounds in
+    let enough = room_suffices _ _ _ (passes (goal.at.clear-requires c).In_ok-most) in
+    let few = (first-lent _ _ _ (passes (goal.at.clear-requires c).In_ok-most)).in_bounds in
     (few, omega arith)
 
-pub returns-in-Refused : goal.returns-in-Refused
-returns-in-Refused c =
+pub returns : goal.returns
+returns c = 
     let in_bounds = sym c.allowed.ensures ∙ c.if-not-allowed.false in
-    refuses _ _ _ _ _ _ in_bounds c.grant.ensures c.in-Refused.is
-
-pub returns-in-Cap : goal.returns-in-Cap
-returns-in-Cap c =
-    let in_bounds = sym c.allowed.ensures ∙ c.if-not-allowed.false in
-    answers _ _ _ _ _ _ in_bounds (passes (goal.at.returns-in-Cap c).In-Cap) c.work_on-answer.ensures c.clear.ensures
+    let a = c.args in
+    answered _ _ _ (passes (goal.at.returns c).In_ok-most) (refused_after 0)
+    (λ cap. stored_run (reduced (order_of a.order) a.limit cap a.s.now) a.out.now) c.work-answer.ensures c.clear.ensures
+    ∙ sym (in_limit _ _ _ _ _ _ in_bounds)
