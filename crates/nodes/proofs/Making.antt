@@ -1,5 +1,5 @@
 -- New nodes: what their first numbers say, and which terms they are once both numbers are put.
-use Prim.Native.Nat.{ℕ, suc, ◌+◌, ◌*◌, ◌/◌, ◌%◌, ◌-◌, ◌≤◌, ◌<◌, max}
+use Prim.Native.Nat.{ℕ, suc, ◌+◌, ◌*◌, ◌/◌, ◌%◌, ◌-◌, ◌≤◌, ◌<◌, min, max}
 use mathlib.Core.Path.{◌≡◌, refl, sym, ◌∙◌}
 use mathlib.Core.Bool.{Bool, true, false, cond}
 use mathlib.Core.List.{List}
@@ -42,17 +42,12 @@ max_free-grows f g (app l r) le h =
     omega arith
 
 -- A VARIABLE
-pub says-low-variable : (i : ℕ) → i < 1023 → Says (packed 1 1 1 i 1) (var i)
+-- from 1023 on the bound says nothing
+pub says_variable : (i : ℕ) → Says (packed 1 1 1 (min i 1023) 1) (var i)
 unfolding kind nodes height max_free
-says-low-variable i low =
-    says-packed (var i) 1 1 1 i 1 (omega arith, omega arith, omega arith, omega arith, omega arith) refl refl refl
-    (λ z. omega arith) (λ z. variable)
-
-pub says_high_variable : (i : ℕ) → Says (packed 1 1 1 1023 1) (var i)
-unfolding kind nodes height
-says_high_variable i =
-    says-packed (var i) 1 1 1 1023 1 (omega arith, omega arith, omega arith, omega arith, omega arith) refl refl refl
-    (λ low. absurd (omega arith)) (λ z. variable)
+says_variable i =
+    says-packed (var i) 1 1 1 (min i 1023) 1 (omega arith, omega arith, omega arith, omega arith, omega arith) refl refl
+    refl (λ low. omega arith) (λ z. variable)
 
 -- AN ABSTRACTION
 -- the bound is one less, unless it is 0 or says nothing

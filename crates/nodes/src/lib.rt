@@ -5,18 +5,19 @@ pub mod lending;
 pub mod reading;
 pub mod runs;
 
-ghost use Rattle.std.specs.Prelude.{◌≡◌, ◌+◌, ◌*◌, ◌/◌, ◌%◌, ◌≤◌, ◌<◌, max, length, set};
+ghost use Rattle.std.specs.Prelude.{◌≡◌, ◌+◌, ◌*◌, ◌/◌, ◌%◌, ◌≤◌, ◌<◌, eqb, max, length, set};
 ghost use Rattle.calculus.specs.Term.{Term, var, lam, app};
 ghost use Rattle.calculus.specs.Bounds.{most_nodes, room_per_node};
 ghost use Rattle.calculus.specs.Bytes.{digits};
 ghost use Rattle.calculus.specs.Outcomes.{cleared};
 ghost use Rattle.calculus.proofs.Putting.{Puts};
 ghost use Rattle.nodes.specs.Packing.{packed, lowered, settled, kind_in, nodes_in, height_in, free_in, normal_in};
-ghost use Rattle.nodes.specs.Store.{Holds, Same, word};
+ghost use Rattle.nodes.specs.Store.{Holds, Same, word, link};
+ghost use Rattle.nodes.specs.Node.{node_in};
 ghost use Rattle.nodes.specs.Coded.{Loadable, Loads, Savable, Saves};
 
 use calculus::ROOM_PER_NODE;
-use term::{Head, larger};
+use term::Head;
 
 // How much each part of a node's first number stands for: nodes above the kind, and so on.
 const NODES: u64 = 4;
@@ -64,6 +65,13 @@ pub fn normal_of(w: u64) -> u64
     w / NORMAL % 2
 }
 
+// Whether the node's term is known to be normal.
+pub fn is_normal(w: u64) -> bool
+    ensures { result ≡ eqb (normal_in w) 1 }
+{
+    normal_of(w) == 1
+}
+
 // The parts that a second number holds.
 pub fn left_of(x: u64) -> usize
     ensures { result ≡ x % 4294967296 }
@@ -75,6 +83,28 @@ pub fn right_of(x: u64) -> usize
     ensures { result ≡ x / 4294967296 }
 {
     (x / RIGHT) as usize
+}
+
+// What a node is: a variable and its index, or the numbers of its parts.
+#[derive(Clone, Copy, Debug, PartialEq, Eq)]
+pub enum Node {
+    Variable(u64),
+    Abstraction(usize),
+    Application(usize, usize),
+}
+
+// The node, read from both of its numbers.
+#[tactic(auto, using(crate::proofs::Making::number_tests), unfolding(crate::specs::Node::node_in))]
+pub fn node_at(room: &[u64], node: usize) -> Node
+    requires { 2 * node + 2 ≤ length room.now }
+    ensures { result ≡ node_in (word room.now node) (link room.now node) }
+{
+    let x = room[2 * node + 1];
+    match kind_of(room[2 * node]) {
+        1 => Node::Variable(x),
+        2 => Node::Abstraction(x as usize),
+        _ => Node::Application(left_of(x), right_of(x)),
+    }
 }
 
 // Two parts in one number.
@@ -124,7 +154,7 @@ fn settle(a: u64, b: u64) -> u64
     if kind_of(a) == 2 {
         return 0;
     }
-    if normal_of(a) == 1 { normal_of(b) } else { 0 }
+    if is_normal(a) { normal_of(b) } else { 0 }
 }
 
 // Node `used` becomes the variable.
@@ -133,11 +163,7 @@ pub fn make_variable(room: &mut [u64], used: usize, index: u64) -> usize
     ensures { (result ≡ used + 1) × Same room.old room.new used
         × Holds room.new (var index) used }
 {
-    if index < UNKNOWN {
-        put(room, used, pack(1, 1, 1, index, 1), index)
-    } else {
-        put(room, used, pack(1, 1, 1, UNKNOWN, 1), index)
-    }
+    put(room, used, pack(1, 1, 1, index.min(UNKNOWN), 1), index)
 }
 
 // Node `used` becomes the abstraction whose body is another node.
@@ -172,8 +198,8 @@ pub fn make_application(room: &mut [u64], used: usize, left: usize, right: usize
     let facts = pack(
         3,
         nodes_of(a) + nodes_of(b) + 1,
-        larger(height_of(a), height_of(b)) + 1,
-        larger(free_of(a), free_of(b)),
+        height_of(a).max(height_of(b)) + 1,
+        free_of(a).max(free_of(b)),
         settle(a, b),
     );
     put(room, used, facts, pair(left, right))
@@ -234,20 +260,21 @@ pub fn save(room: &[u64], node: usize, out: &mut [u8], at: usize) -> usize
     let mut here = node;
     let mut to = at;
     loop {
-        let x = room[2 * here + 1];
-        let kind = kind_of(room[2 * here]);
-        if kind == 1 {
-            out[to] = 1;
-            return put_index(out, to + 1, x);
-        }
-        if kind == 2 {
-            out[to] = 2;
-            to += 1;
-            here = x as usize;
-        } else {
-            out[to] = 3;
-            to = save(room, left_of(x), out, to + 1);
-            here = right_of(x);
+        match node_at(room, here) {
+            Node::Variable(index) => {
+                out[to] = 1;
+                return put_index(out, to + 1, index);
+            }
+            Node::Abstraction(body) => {
+                out[to] = 2;
+                to += 1;
+                here = body;
+            }
+            Node::Application(left, right) => {
+                out[to] = 3;
+                to = save(room, left, out, to + 1);
+                here = right;
+            }
         }
     }
 }

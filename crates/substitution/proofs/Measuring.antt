@@ -6,13 +6,18 @@ use native.Mathlib.Omega.{arith}
 use Rattle.calculus.specs.Term.{Term, nodes, height}
 use Rattle.calculus.specs.Bounds.{most_nodes}
 use Rattle.calculus.specs.Substitution.{put, occurs}
-use Rattle.nodes.specs.Packing.{kind_in, height_in, free_in}
+use Rattle.nodes.specs.Packing.{height_in, free_in}
 use Rattle.nodes.specs.Store.{Holds, word, link}
+use Rattle.nodes.specs.Node.{node_in}
+use Rattle.nodes.specs.declared.Node.{Node}
+use Rattle.nodes.specs.declared.Node.TheVariants.{Abstraction, Application}
+use Rattle.nodes.specs.declared.Node.TheVariants as kind
 use Rattle.nodes.proofs.Keeping.{says}
 use Rattle.nodes.proofs.Parts.{HeldAbstraction, HeldApplication}
+use Rattle.nodes.proofs.Parts.{held-variable, held-abstraction, held-application}
 use Rattle.substitution.specs.Weighing.{deepest, Measurable, Measures}
 use Rattle.substitution.specs.declared.weighing.Measured.{Measured}
-use Rattle.nodes.proofs.Holding.{held_once, is-variable, is-abstraction, is-application}
+use Rattle.nodes.proofs.Holding.{held_once}
 use Rattle.substitution.proofs.Placed.{put_stays}
 use Rattle.substitution.proofs.Counting.{Variable, index-here, index_other, none-put, within}
 
@@ -65,37 +70,37 @@ module _ {room : List ℕ} {node depth tall : ℕ} (asked : Measurable room node
     low = asked.low;
   }
 
-  module _ {k : ℕ} (told : k ≡ kind_in (word room node)) where
+  module _ {found : Node} (told : found ≡ node_in (word room node) (link room node)) where
     -- A VARIABLE
-    module _ (is : k ≡ 1) where
+    module _ {i : ℕ} (is : found ≡ kind.Variable i) where
       counted-index : {copies place h : ℕ}
-          → ((a : Term) → height a ≡ tall → Variable depth a (link room node) copies place h)
+          → ((a : Term) → height a ≡ tall → Variable depth a i copies place h)
           → Measures room node depth tall (record { copies = copies; deepest = place; height = h })
       counted-index v =
           let known = v asked.put_term asked.tall_is in
-          let e = is-variable room node told asked.term asked.holds is in
+          let e = held-variable room node told asked.term asked.holds is in
           measures (rw e (record {
             copies = sym known.occurs_is;
             deepest_at = sym known.deepest_is;
             height_is = λ a same. sym (v a same).height_is;
           }))
 
-      pub at_index : link room node ≡ depth + 1
-          → Measures room node depth tall (record { copies = 1; deepest = link room node; height = tall })
+      pub at_index : i ≡ depth + 1
+          → Measures room node depth tall (record { copies = 1; deepest = i; height = tall })
       at_index here =
-          let e : link room node ≡ suc depth = omega arith in
-          rw e (counted-index (λ a same. rw (sym same) (index-here depth a (link room node) e)))
+          let e : i ≡ suc depth = omega arith in
+          rw e (counted-index (λ a same. rw (sym same) (index-here depth a i e)))
 
-      pub at_other : (link room node ≡ depth + 1 → ⊥)
+      pub at_other : (i ≡ depth + 1 → ⊥)
           → Measures room node depth tall (record { copies = 0; deepest = 0; height = 1 })
-      at_other other = counted-index (λ a same. index_other depth a (link room node) (λ e. other (omega arith)))
+      at_other other = counted-index (λ a same. index_other depth a i (λ e. other (omega arith)))
 
     -- AN ABSTRACTION
-    module _ (is : k ≡ 2) where
-      held-body : HeldAbstraction room node asked.term
-      held-body = is-abstraction room node told asked.term asked.holds is
+    module _ {b : ℕ} (is : found ≡ Abstraction b) where
+      held-body : HeldAbstraction room node b asked.term
+      held-body = held-abstraction room node told asked.term asked.holds is
 
-      pub body_asks : (link room node < node) × Measurable room (link room node) (depth + 1) tall
+      pub body_asks : (b < node) × Measurable room b (depth + 1) tall
       unfolding nodes height
       body_asks =
           let v = held-body in (
@@ -104,7 +109,7 @@ module _ {room : List ℕ} {node depth tall : ℕ} (asked : Measurable room node
                 (omega (arith, ap height v.same)),
           )
 
-      module _ {body : Measured} (x : Measures room (link room node) (depth + 1) tall body) where
+      module _ {body : Measured} (x : Measures room b (depth + 1) tall body) where
         pub body-low : body.height ≤ 2044
         unfolding height
         body-low =
@@ -130,40 +135,39 @@ module _ {room : List ℕ} {node depth tall : ℕ} (asked : Measurable room node
             }))
 
     -- AN APPLICATION
-    module _ (not1 : k ≡ 1 → ⊥) (not2 : k ≡ 2 → ⊥) where
-      parts : HeldApplication room node asked.term
-      parts = is-application room node told asked.term asked.holds not1 not2
+    module _ {m n : ℕ} (is : found ≡ Application m n) where
+      parts : HeldApplication room node m n asked.term
+      parts = held-application room node told asked.term asked.holds is
 
-      pub left_asks : {m : ℕ} → m ≡ link room node % 4294967296 → (m < node) × Measurable room m depth tall
+      pub left_asks : (m < node) × Measurable room m depth tall
       unfolding nodes height
-      left_asks left_is =
+      left_asks =
           let v = parts in
           let falls = v.left_below in
-          rw left_is (
+          (
             falls,
             part_asks v.left v.left_held falls (omega (arith, ap nodes v.same))
                 (omega (arith, ap height v.same)),
           )
 
-      pub right_asks : {n : ℕ} → n ≡ link room node / 4294967296 → (n < node) × Measurable room n depth tall
+      pub right_asks : (n < node) × Measurable room n depth tall
       unfolding nodes height
-      right_asks right_is =
+      right_asks =
           let v = parts in
           let falls = v.right_below in
-          rw right_is (
+          (
             falls,
             part_asks v.right v.right_held falls (omega (arith, ap nodes v.same))
                 (omega (arith, ap height v.same)),
           )
 
-      module _ {m n : ℕ} (left_is : m ≡ link room node % 4294967296) (right_is : n ≡ link room node / 4294967296)
-          {left right : Measured} (first : Measures room m depth tall left) (second : Measures room n depth tall right)
-        where
+      module _ {left right : Measured} (first : Measures room m depth tall left)
+          (second : Measures room n depth tall right) where
           left-counted : Counted depth tall parts.left left
-          left-counted = counted parts.left parts.left_held (rw left_is at first)
+          left-counted = counted parts.left parts.left_held first
 
           right-counted : Counted depth tall parts.right right
-          right-counted = counted parts.right parts.right_held (rw right_is at second)
+          right-counted = counted parts.right parts.right_held second
 
           pub sums_low : (left.copies + right.copies ≤ 4 * most_nodes) × (max left.height right.height ≤ 2044)
           unfolding nodes height

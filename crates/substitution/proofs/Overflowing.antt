@@ -12,13 +12,16 @@ use Rattle.calculus.specs.Bounds.{greatest_number}
 use Rattle.calculus.specs.Substitution.{raise}
 use Rattle.calculus.specs.Queries.{max_free}
 use Rattle.calculus.proofs.Substituting.{raise-bound, raise_free}
-use Rattle.nodes.specs.Packing.{kind_in, free_in}
+use Rattle.nodes.specs.Packing.{free_in}
 use Rattle.nodes.specs.Store.{Holds, word, link}
+use Rattle.nodes.specs.Node.{node_in}
+use Rattle.nodes.specs.declared.Node.{Node}
+use Rattle.nodes.specs.declared.Node.TheVariants.{Variable, Abstraction, Application}
 use Rattle.nodes.proofs.Keeping.{says}
-use Rattle.nodes.proofs.Parts.{HeldApplication}
+use Rattle.nodes.proofs.Parts.{HeldApplication, held-variable, held-abstraction, held-application}
 use Rattle.substitution.specs.Weighing.{too_great, Overflowable, Overflows}
 use Rattle.substitution.proofs.Lifting.{by_index}
-use Rattle.nodes.proofs.Holding.{held_once, is-variable, is-abstraction, is-application}
+use Rattle.nodes.proofs.Holding.{held_once}
 
 -- WHAT IS TOO GREAT
 pub fits_told : (t : Term) → greatest_index t ≤ greatest_number → false ≡ too_great t
@@ -76,66 +79,64 @@ module _ {room : List ℕ} {node amount depth : ℕ} (asked : Overflowable room 
     little = asked.little;
   }
 
-  module _ {k : ℕ} (told : k ≡ kind_in (word room node)) where
+  module _ {found : Node} (told : found ≡ node_in (word room node) (link room node)) where
     -- A VARIABLE
-    module _ (is : k ≡ 1) where
-      index_is : asked.term ≡ var (link room node)
-      index_is = is-variable room node told asked.term asked.holds is
+    module _ {i : ℕ} (is : found ≡ Variable i) where
+      index_is : asked.term ≡ var i
+      index_is = held-variable room node told asked.term asked.holds is
 
-      pub at_bound : link room node ≤ depth → Overflows room node amount depth false
+      pub at_bound : i ≤ depth → Overflows room node amount depth false
       unfolding greatest_index
       at_bound low =
-          let fits = fits_told (var (link room node)) (omega (arith, asked.deep)) in
-          overflows (rw (index_is, raise-bound amount depth (link room node) low) fits)
+          let fits = fits_told (var i) (omega (arith, asked.deep)) in
+          overflows (rw (index_is, raise-bound amount depth i low) fits)
 
-      pub at_free : depth < link room node
-          → Overflows room node amount depth (ltb (greatest_number - amount) (link room node))
+      pub at_free : depth < i
+          → Overflows room node amount depth (ltb (greatest_number - amount) i)
       unfolding greatest_index
       at_free free =
-          overflows (rw (index_is, raise_free amount depth (link room node) free) (
-          elim (dec_le (link room node + amount) greatest_number) [
+          overflows (rw (index_is, raise_free amount depth i free) (
+          elim (dec_le (i + amount) greatest_number) [
             | yes h ↦
-                le-ltb (greatest_number - amount) (link room node) (omega arith)
-                ∙ fits_told (var (link room node + amount)) h
+                le-ltb (greatest_number - amount) i (omega arith)
+                ∙ fits_told (var (i + amount)) h
             | no h ↦
-                lt-ltb (greatest_number - amount) (link room node) (omega (arith, asked.little))
-                ∙ great_told (var (link room node + amount)) (omega arith)
+                lt-ltb (greatest_number - amount) i (omega (arith, asked.little))
+                ∙ great_told (var (i + amount)) (omega arith)
           ]
           ))
 
     -- AN ABSTRACTION
-    module _ (is : k ≡ 2) where
-      pub body_asks : (link room node < node) × Overflowable room (link room node) amount (depth + 1)
+    module _ {b : ℕ} (is : found ≡ Abstraction b) where
+      pub body_asks : (b < node) × Overflowable room b amount (depth + 1)
       unfolding height
       body_asks =
-          let v = is-abstraction room node told asked.term asked.holds is in
+          let v = held-abstraction room node told asked.term asked.holds is in
           (v.below, part_asks v.body v.held v.below (omega (arith, ap height v.same)))
 
-      pub at_abstraction : {r : Bool} → Overflows room (link room node) amount (depth + 1) r
+      pub at_abstraction : {r : Bool} → Overflows room b amount (depth + 1) r
           → Overflows room node amount depth r
       unfolding raise greatest_index
       at_abstraction x =
-          let v = is-abstraction room node told asked.term asked.holds is in
+          let v = held-abstraction room node told asked.term asked.holds is in
           let one : depth + 1 ≡ suc depth = omega arith in
           overflows (rw v.same (rw one at (x.tells v.body v.held)))
 
     -- AN APPLICATION
-    module _ (not1 : k ≡ 1 → ⊥) (not2 : k ≡ 2 → ⊥) where
-      parts : HeldApplication room node asked.term
-      parts = is-application room node told asked.term asked.holds not1 not2
+    module _ {m n : ℕ} (is : found ≡ Application m n) where
+      parts : HeldApplication room node m n asked.term
+      parts = held-application room node told asked.term asked.holds is
 
-      pub left_asks : {m : ℕ} → m ≡ link room node % 4294967296 → (m < node) × Overflowable room m amount depth
+      pub left_asks : (m < node) × Overflowable room m amount depth
       unfolding height
-      left_asks left_is =
+      left_asks =
           let v = parts in
-          rw left_is
           (v.left_below, part_asks v.left v.left_held v.left_below (omega (arith, ap height v.same)))
 
-      pub right_asks : {n : ℕ} → n ≡ link room node / 4294967296 → (n < node) × Overflowable room n amount depth
+      pub right_asks : (n < node) × Overflowable room n amount depth
       unfolding height
-      right_asks right_is =
+      right_asks =
           let v = parts in
-          rw right_is
           (v.right_below, part_asks v.right v.right_held v.right_below (omega (arith, ap height v.same)))
 
       raised-left : Term
@@ -148,24 +149,22 @@ module _ {room : List ℕ} {node amount depth : ℕ} (asked : Overflowable room 
       unfolding raise raised-left raised-right
       whole_is e = overflows (e ∙ ap (λ u. too_great (raise amount depth u)) (sym parts.same))
 
-      module _ {m : ℕ} (left_is : m ≡ link room node % 4294967296) where
-        left-told : {r : Bool} → Overflows room m amount depth r → r ≡ too_great raised-left
-        unfolding raised-left
-        left-told x = (rw left_is at x).tells parts.left parts.left_held
+      left-told : {r : Bool} → Overflows room m amount depth r → r ≡ too_great raised-left
+      unfolding raised-left
+      left-told x = x.tells parts.left parts.left_held
 
-        -- the left part decides
-        pub at_left : Overflows room m amount depth true → Overflows room node amount depth true
-        unfolding greatest_index
-        at_left x =
-            let great = told_great raised-left (left-told x) in
-            whole_is (great_told (app raised-left raised-right) (omega arith))
+      -- the left part decides
+      pub at_left : Overflows room m amount depth true → Overflows room node amount depth true
+      unfolding greatest_index
+      at_left x =
+          let great = told_great raised-left (left-told x) in
+          whole_is (great_told (app raised-left raised-right) (omega arith))
 
-        -- or else the right one
-        pub at_right : Overflows room m amount depth false → {n : ℕ} {r : Bool} → n ≡ link room node / 4294967296
-            → Overflows room n amount depth r → Overflows room node amount depth r
-        unfolding raised-right greatest_index
-        at_right x right_is y =
-            let fits = told-fits raised-left (left-told x) in
-            let right = (rw right_is at y).tells parts.right parts.right_held in
-            whole_is
-            (right ∙ both_great raised-right (app raised-left raised-right) (λ h. omega arith) (λ h. omega arith))
+      -- or else the right one
+      pub at_right : Overflows room m amount depth false → {r : Bool} → Overflows room n amount depth r → Overflows room node amount depth r
+      unfolding raised-right greatest_index
+      at_right x y =
+          let fits = told-fits raised-left (left-told x) in
+          let right = y.tells parts.right parts.right_held in
+          whole_is
+          (right ∙ both_great raised-right (app raised-left raised-right) (λ h. omega arith) (λ h. omega arith))

@@ -8,14 +8,18 @@ use Rattle.calculus.specs.Term.{Term, var, lam, app}
 use Rattle.calculus.specs.Substitution.{raise, put}
 use Rattle.calculus.specs.Queries.{max_free}
 use Rattle.calculus.proofs.Substituting.{put-below, put_at, put-above}
-use Rattle.nodes.specs.Packing.{kind_in, nodes_in, height_in, free_in}
+use Rattle.nodes.specs.Packing.{nodes_in, height_in, free_in}
 use Rattle.nodes.specs.Store.{Holds, Same, word, link}
+use Rattle.nodes.specs.Node.{node_in}
+use Rattle.nodes.specs.declared.Node.{Node}
+use Rattle.nodes.specs.declared.Node.TheVariants.{Variable, Abstraction, Application}
 use Rattle.nodes.proofs.Keeping.{holds_kept, says}
 use Rattle.substitution.specs.Raising.{Raisable, Raises}
 use Rattle.substitution.specs.Placing.{Placeable, Places}
 use Rattle.substitution.specs.Raising.{Made}
 use Rattle.substitution.proofs.Lifting.{height-raise}
-use Rattle.nodes.proofs.Holding.{held_once, is-variable}
+use Rattle.nodes.proofs.Parts.{held-variable}
+use Rattle.nodes.proofs.Holding.{held_once}
 use Rattle.substitution.proofs.Copying.{Copied, shared, one_fits, new_variable, left-kept}
 use Rattle.substitution.proofs.Walking.{Walks, Copyable, held-body, body-can, lam_asks, lam_copied}
 use Rattle.substitution.proofs.Walking.{parts, left-can, right-can, app_asks, app_copied}
@@ -109,20 +113,20 @@ module _ {room : List ℕ} {used node depth argument : ℕ} (asked : Placeable r
       let said = says room asked.term node asked.holds in
       stays (put_stays asked.put_term asked.term low (said.free_are (omega (arith, asked.deep))))
 
-  module _ {k : ℕ} (told : k ≡ kind_in (word room node)) where
+  module _ {found : Node} (told : found ≡ node_in (word room node) (link room node)) where
     -- A VARIABLE
-    module _ (is : k ≡ 1) where
-      index_is : asked.term ≡ var (link room node)
-      index_is = is-variable room node told asked.term asked.holds is
+    module _ {i : ℕ} (is : found ≡ Variable i) where
+      index_is : asked.term ≡ var i
+      index_is = held-variable room node told asked.term asked.holds is
 
-      pub at_bound : link room node ≤ depth
+      pub at_bound : i ≤ depth
           → Places room used node depth argument (record { node = node; used = used }) room
-      at_bound low = stays (rw index_is (put-below depth asked.put_term (link room node) low))
+      at_bound low = stays (rw index_is (put-below depth asked.put_term i low))
 
       -- the index that equals its depth becomes the argument
-      module _ (here : link room node ≡ depth + 1) where
+      module _ (here : i ≡ depth + 1) where
         becomes : put depth asked.put_term asked.term ≡ raise depth 0 asked.put_term
-        becomes = rw index_is (put_at depth asked.put_term (link room node) (omega arith))
+        becomes = rw index_is (put_at depth asked.put_term i (omega arith))
 
         pub argument_asks : Raisable room used argument depth 0
         argument_asks =
@@ -148,19 +152,19 @@ module _ {room : List ℕ} {used node depth argument : ℕ} (asked : Placeable r
       pub variable_asks : 2 * used + 2 ≤ length room
       variable_asks = one_fits can.roomy
 
-      pub at_variable : depth < link room node → (link room node ≡ depth + 1 → ⊥) → {next : ℕ} {after : List ℕ}
-          → next ≡ used + 1 → Same room after used → Holds after (var (link room node - 1)) used
+      pub at_variable : depth < i → (i ≡ depth + 1 → ⊥) → {next : ℕ} {after : List ℕ}
+          → next ≡ used + 1 → Same room after used → Holds after (var (i - 1)) used
           → Places room used node depth argument (record { node = used; used = next }) after
       at_variable free other end same new =
-          let above : suc depth < link room node = omega (arith, other) in
-          let falls : pred (link room node) ≡ link room node - 1 = omega arith in
-          let moves : put depth asked.put_term asked.term ≡ var (link room node - 1) =
-          rw (index_is, sym falls) (put-above depth asked.put_term (link room node) above) in
+          let above : suc depth < i = omega (arith, other) in
+          let falls : pred i ≡ i - 1 = omega arith in
+          let moves : put depth asked.put_term asked.term ≡ var (i - 1) =
+          rw (index_is, sym falls) (put-above depth asked.put_term i above) in
           copied_places (rw moves (new_variable end same new))
 
     -- AN ABSTRACTION
-    module _ (is : k ≡ 2) where
-      pub body_asks : (link room node < node) × Placeable room used (link room node) (depth + 1) argument
+    module _ {b : ℕ} (is : found ≡ Abstraction b) where
+      pub body_asks : (b < node) × Placeable room used b (depth + 1) argument
       body_asks =
           let v = held-body walks can told is in (
             v.below,
@@ -168,7 +172,7 @@ module _ {room : List ℕ} {used node depth argument : ℕ} (asked : Placeable r
           )
 
       module _ {body : Made} {mid : List ℕ}
-          (places : Places room used (link room node) (depth + 1) argument body mid) where
+          (places : Places room used b (depth + 1) argument body mid) where
         body_copied : Copied (put (depth + 1) asked.put_term (held-body walks can told is).body) room used body mid
         body_copied = places_copied _ _ (held-body walks can told is).held asked.holds_put places
 
@@ -183,41 +187,40 @@ module _ {room : List ℕ} {used node depth argument : ℕ} (asked : Placeable r
             copied_places (lam_copied walks can told is body_copied end same (new _ body_copied.holds))
 
     -- AN APPLICATION
-    module _ (not1 : k ≡ 1 → ⊥) (not2 : k ≡ 2 → ⊥) {m : ℕ} (left_is : m ≡ link room node % 4294967296) where
+    module _ {m n : ℕ} (is : found ≡ Application m n) where
       pub left_asks : (m < node) × Placeable room used m depth argument
       left_asks =
-          let left = left-can walks can told not1 not2 left_is in (
-            omega (arith, (parts walks can told not1 not2).left_below),
+          let left = left-can walks can told is in (
+            omega (arith, (parts walks can told is).left_below),
             placeable _ asked.put_term left asked.holds_put asked.below_put,
           )
 
-      module _ {left : Made} {mid : List ℕ} (first : Places room used m depth argument left mid)
-          {n : ℕ} (right_is : n ≡ link room node / 4294967296) where
-        left_copied : Copied (put depth asked.put_term (parts walks can told not1 not2).left) room used left mid
+      module _ {left : Made} {mid : List ℕ} (first : Places room used m depth argument left mid) where
+        left_copied : Copied (put depth asked.put_term (parts walks can told is).left) room used left mid
         left_copied =
-            places_copied _ _ (left-can walks can told not1 not2 left_is).holds asked.holds_put first
+            places_copied _ _ (left-can walks can told is).holds asked.holds_put first
 
         put-kept : Holds mid asked.put_term argument
         put-kept = holds_kept asked.put_term argument first.same asked.below_put asked.holds_put
 
         pub right_asks : (n < node) × Placeable mid left.used n depth argument
         right_asks =
-            let right = right-can walks can told not1 not2 left_copied right_is in (
-              omega (arith, (parts walks can told not1 not2).right_below),
+            let right = right-can walks can told is left_copied in (
+              omega (arith, (parts walks can told is).right_below),
               placeable _ asked.put_term right put-kept (omega (arith, asked.below_put, first.grows)),
             )
 
         module _ {right : Made} {end : List ℕ} (second : Places mid left.used n depth argument right end) where
-          right_copied : Copied (put depth asked.put_term (parts walks can told not1 not2).right) mid left.used
+          right_copied : Copied (put depth asked.put_term (parts walks can told is).right) mid left.used
               right end
           right_copied =
-              places_copied _ _ (right-can walks can told not1 not2 left_copied right_is).holds put-kept second
+              places_copied _ _ (right-can walks can told is left_copied).holds put-kept second
 
           pub application_asks : (left.node < right.used) × (right.node < right.used) × (right.used < 4294967296)
               × (2 * right.used + 2 ≤ length end)
               × (nodes_in (word end left.node) + nodes_in (word end right.node) < 262143)
               × (max (height_in (word end left.node)) (height_in (word end right.node)) < 1023)
-          application_asks = app_asks walks can told not1 not2 left_copied right_copied
+          application_asks = app_asks walks can told is left_copied right_copied
 
           pub at_application : {next : ℕ} {after : List ℕ} → next ≡ right.used + 1 → Same end after right.used
               → ((l r : Term) → Holds end l left.node → Holds end r right.node
@@ -225,5 +228,5 @@ module _ {room : List ℕ} {used node depth argument : ℕ} (asked : Placeable r
               → Places room used node depth argument (record { node = right.used; used = next }) after
           at_application stop same new =
               copied_places
-              (app_copied walks can told not1 not2 left_copied right_copied stop same
+              (app_copied walks can told is left_copied right_copied stop same
               (new _ _ (left-kept left_copied right_copied) right_copied.holds))

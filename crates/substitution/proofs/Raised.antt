@@ -9,14 +9,18 @@ use Rattle.calculus.specs.Bounds.{greatest_number}
 use Rattle.calculus.specs.Substitution.{raise}
 use Rattle.calculus.proofs.Substituting.{raise-bound, raise_free}
 use Rattle.calculus.proofs.Growth.{nodes-raise}
-use Rattle.nodes.specs.Packing.{kind_in, free_in}
+use Rattle.nodes.specs.Packing.{free_in}
 use Rattle.nodes.specs.Store.{Says, Holds, Same, word, link}
+use Rattle.nodes.specs.Node.{node_in}
+use Rattle.nodes.specs.declared.Node.{Node}
+use Rattle.nodes.specs.declared.Node.TheVariants.{Variable, Abstraction, Application}
 use Rattle.nodes.proofs.Keeping.{says}
 use Rattle.nodes.proofs.Making.{abstraction-made, application-made}
 use Rattle.substitution.specs.Raising.{lifted, Raisable, Raises}
 use Rattle.substitution.specs.Raising.{Made}
 use Rattle.substitution.proofs.Lifting.{raise-nothing, raise_stays, height-raise, says-lifted}
-use Rattle.nodes.proofs.Holding.{held_once, is-variable}
+use Rattle.nodes.proofs.Parts.{held-variable}
+use Rattle.nodes.proofs.Holding.{held_once}
 use Rattle.substitution.proofs.Copying.{Copied, shared, one_fits, new_variable, left-kept}
 use Rattle.substitution.proofs.Walking.{Walks, Copyable, held-body, body_is, body-can, lam_asks, lam_copied}
 use Rattle.substitution.proofs.Walking.{parts, parts_are, left-can, right-can, app_asks, app_copied}
@@ -99,37 +103,37 @@ module _ {room : List ℕ} {used node amount depth : ℕ} (asked : Raisable room
       let said = says room asked.term node asked.holds in
       stays (raise_stays amount asked.term low (said.free_are (omega (arith, asked.deep))))
 
-  module _ {k : ℕ} (told : k ≡ kind_in (word room node)) where
+  module _ {found : Node} (told : found ≡ node_in (word room node) (link room node)) where
     -- A VARIABLE
-    module _ (is : k ≡ 1) where
-      index_is : asked.term ≡ var (link room node)
-      index_is = is-variable room node told asked.term asked.holds is
+    module _ {i : ℕ} (is : found ≡ Variable i) where
+      index_is : asked.term ≡ var i
+      index_is = held-variable room node told asked.term asked.holds is
 
-      pub at_bound : link room node ≤ depth
+      pub at_bound : i ≤ depth
           → Raises room used node amount depth (record { node = node; used = used }) room
-      at_bound low = stays (rw index_is (raise-bound amount depth (link room node) low))
+      at_bound low = stays (rw index_is (raise-bound amount depth i low))
 
-      module _ (free : depth < link room node) where
-        moves : raise amount depth asked.term ≡ var (link room node + amount)
-        moves = rw index_is (raise_free amount depth (link room node) free)
+      module _ (free : depth < i) where
+        moves : raise amount depth asked.term ≡ var (i + amount)
+        moves = rw index_is (raise_free amount depth i free)
 
-        pub variable_asks : (link room node + amount ≤ greatest_number) × (2 * used + 2 ≤ length room)
+        pub variable_asks : (i + amount ≤ greatest_number) × (2 * used + 2 ≤ length room)
         unfolding greatest_index
         variable_asks = (omega (arith, ap greatest_index moves, asked.small), one_fits can.roomy)
 
         pub at_variable : {next : ℕ} {after : List ℕ} → next ≡ used + 1 → Same room after used
-            → Holds after (var (link room node + amount)) used
+            → Holds after (var (i + amount)) used
             → Raises room used node amount depth (record { node = used; used = next }) after
         at_variable end same new = copied_raises (rw moves (new_variable end same new))
 
     -- AN ABSTRACTION
-    module _ (is : k ≡ 2) where
-      pub body_asks : (link room node < node) × Raisable room used (link room node) amount (depth + 1)
+    module _ {b : ℕ} (is : found ≡ Abstraction b) where
+      pub body_asks : (b < node) × Raisable room used b amount (depth + 1)
       body_asks =
           ((held-body walks can told is).below, raisable _ (body-can walks can told is) asked.little)
 
       module _ {body : Made} {mid : List ℕ}
-          (raises : Raises room used (link room node) amount (depth + 1) body mid) where
+          (raises : Raises room used b amount (depth + 1) body mid) where
         body_copied : Copied (raise amount (depth + 1) (held-body walks can told is).body) room used body mid
         body_copied = raises_copied _ (held-body walks can told is).held raises
 
@@ -149,30 +153,29 @@ module _ {room : List ℕ} {used node amount depth : ℕ} (asked : Raisable room
             copied_raises (lam_copied walks can told is body_copied end same (new _ held))
 
     -- AN APPLICATION
-    module _ (not1 : k ≡ 1 → ⊥) (not2 : k ≡ 2 → ⊥) {m : ℕ} (left_is : m ≡ link room node % 4294967296) where
+    module _ {m n : ℕ} (is : found ≡ Application m n) where
       pub left_asks : (m < node) × Raisable room used m amount depth
       left_asks =
-          let left = left-can walks can told not1 not2 left_is in
-          (omega (arith, (parts walks can told not1 not2).left_below), raisable _ left asked.little)
+          let left = left-can walks can told is in
+          (omega (arith, (parts walks can told is).left_below), raisable _ left asked.little)
 
-      module _ {left : Made} {mid : List ℕ} (first : Raises room used m amount depth left mid)
-          {n : ℕ} (right_is : n ≡ link room node / 4294967296) where
-        left_copied : Copied (raise amount depth (parts walks can told not1 not2).left) room used left mid
-        left_copied = raises_copied _ (left-can walks can told not1 not2 left_is).holds first
+      module _ {left : Made} {mid : List ℕ} (first : Raises room used m amount depth left mid) where
+        left_copied : Copied (raise amount depth (parts walks can told is).left) room used left mid
+        left_copied = raises_copied _ (left-can walks can told is).holds first
 
         pub right_asks : (n < node) × Raisable mid left.used n amount depth
         right_asks =
-            let right = right-can walks can told not1 not2 left_copied right_is in
-            (omega (arith, (parts walks can told not1 not2).right_below), raisable _ right asked.little)
+            let right = right-can walks can told is left_copied in
+            (omega (arith, (parts walks can told is).right_below), raisable _ right asked.little)
 
         module _ {right : Made} {end : List ℕ} (second : Raises mid left.used n amount depth right end) where
-          right_copied : Copied (raise amount depth (parts walks can told not1 not2).right) mid left.used right end
-          right_copied = raises_copied _ (right-can walks can told not1 not2 left_copied right_is).holds second
+          right_copied : Copied (raise amount depth (parts walks can told is).right) mid left.used right end
+          right_copied = raises_copied _ (right-can walks can told is left_copied).holds second
 
           pub application_asks : (left.node < right.used) × (right.node < right.used) × (right.used < 4294967296)
               × (2 * right.used + 2 ≤ length end)
           application_asks =
-              let (l, r, low, fits, _, _) = app_asks walks can told not1 not2 left_copied right_copied in
+              let (l, r, low, fits, _, _) = app_asks walks can told is left_copied right_copied in
               (l, r, low, fits)
 
           pub at_application : {facts pair next : ℕ} {after : List ℕ} → facts ≡ lifted (word room node) amount
@@ -180,7 +183,7 @@ module _ {room : List ℕ} {used node amount depth : ℕ} (asked : Raisable room
               → (next ≡ right.used + 1) × (after ≡ set (set end (2 * right.used) facts) (2 * right.used + 1) pair)
               → Raises room used node amount depth (record { node = right.used; used = next }) after
           at_application facts_are paired put =
-              let said = rw (parts_are walks can told not1 not2) at raised-says in
+              let said = rw (parts_are walks can told is) at raised-says in
               let (l, r, low, fits) = application_asks in
               let l_held = left-kept left_copied right_copied in
               let r_held = right_copied.holds in
@@ -189,4 +192,4 @@ module _ {room : List ℕ} {used node amount depth : ℕ} (asked : Raisable room
               (λ t u h g.
               rw (facts_are, held_once end left.node t _ h l_held, held_once end right.node u _ g r_held) said) in
               copied_raises
-              (app_copied walks can told not1 not2 left_copied right_copied stop same (new _ _ l_held r_held))
+              (app_copied walks can told is left_copied right_copied stop same (new _ _ l_held r_held))

@@ -5,12 +5,14 @@ use mathlib.Core.List.{List}
 use native.Mathlib.Omega.{arith}
 use lib.ListN.{length}
 use Rattle.calculus.specs.Term.{Term, lam, app, height}
-use Rattle.nodes.specs.Packing.{kind_in, nodes_in, height_in}
+use Rattle.nodes.specs.Packing.{nodes_in, height_in}
 use Rattle.nodes.specs.Store.{Holds, Same, word, link}
+use Rattle.nodes.specs.Node.{node_in}
+use Rattle.nodes.specs.declared.Node.{Node}
+use Rattle.nodes.specs.declared.Node.TheVariants.{Abstraction, Application}
 use Rattle.nodes.proofs.Keeping.{holds_kept}
-use Rattle.nodes.proofs.Parts.{HeldAbstraction, HeldApplication}
+use Rattle.nodes.proofs.Parts.{HeldAbstraction, HeldApplication, held-abstraction, held-application}
 use Rattle.substitution.specs.Raising.{Made}
-use Rattle.nodes.proofs.Holding.{is-abstraction, is-application}
 use Rattle.substitution.proofs.Copying.{Roomy, Copied, body-roomy, left-roomy, right-roomy}
 use Rattle.substitution.proofs.Copying.{abstraction_asks, new_abstraction, application_asks, new_application}
 
@@ -27,16 +29,17 @@ pub record Copyable (F : ℕ → Term → Term) (room : List ℕ) (used node dep
   pub roomy : Roomy room used (F depth t)
 
 module _ {F : ℕ → Term → Term} (walks : Walks F) {room : List ℕ} {used node depth : ℕ} {t : Term}
-    (can : Copyable F room used node depth t) {k : ℕ} (told : k ≡ kind_in (word room node)) where
+    (can : Copyable F room used node depth t) {found : Node}
+    (told : found ≡ node_in (word room node) (link room node)) where
   -- AN ABSTRACTION
-  module _ (is : k ≡ 2) where
-    pub held-body : HeldAbstraction room node t
-    held-body = is-abstraction room node told t can.holds is
+  module _ {b : ℕ} (is : found ≡ Abstraction b) where
+    pub held-body : HeldAbstraction room node b t
+    held-body = held-abstraction room node told t can.holds is
 
     pub body_is : F depth t ≡ lam (F (depth + 1) held-body.body)
     body_is = ap (F depth) held-body.same ∙ walks.into_body depth held-body.body
 
-    pub body-can : Copyable F room used (link room node) (depth + 1) held-body.body
+    pub body-can : Copyable F room used b (depth + 1) held-body.body
     unfolding height
     body-can = record {
       holds = held-body.held;
@@ -56,30 +59,29 @@ module _ {F : ℕ → Term → Term} (walks : Walks F) {room : List ℕ} {used n
       lam_copied end same new = rw body_is (new_abstraction copied end same new)
 
   -- AN APPLICATION
-  module _ (not1 : k ≡ 1 → ⊥) (not2 : k ≡ 2 → ⊥) where
-    pub parts : HeldApplication room node t
-    parts = is-application room node told t can.holds not1 not2
+  module _ {m n : ℕ} (is : found ≡ Application m n) where
+    pub parts : HeldApplication room node m n t
+    parts = held-application room node told t can.holds is
 
     pub parts_are : F depth t ≡ app (F depth parts.left) (F depth parts.right)
     parts_are = ap (F depth) parts.same ∙ walks.into_parts depth parts.left parts.right
 
-    pub left-can : {m : ℕ} → m ≡ link room node % 4294967296 → Copyable F room used m depth parts.left
+    pub left-can : Copyable F room used m depth parts.left
     unfolding height
-    left-can left_is = record {
-      holds = rw left_is parts.left_held;
+    left-can = record {
+      holds = parts.left_held;
       below = omega (arith, parts.left_below, can.below);
       deep = omega (arith, can.deep, ap height parts.same);
       roomy = left-roomy (rw parts_are at can.roomy);
     }
 
     module _ {left : Made} {mid : List ℕ} (first : Copied (F depth parts.left) room used left mid) where
-      pub right-can : {n : ℕ} → n ≡ link room node / 4294967296
-          → Copyable F mid left.used n depth parts.right
+      pub right-can : Copyable F mid left.used n depth parts.right
       unfolding height
-      right-can {n} right_is = record {
+      right-can = record {
         holds =
             holds_kept parts.right n first.same (omega (arith, parts.right_below, can.below))
-            (rw right_is parts.right_held);
+            parts.right_held;
         below = omega (arith, parts.right_below, can.below, first.grows);
         deep = omega (arith, can.deep, ap height parts.same);
         roomy = right-roomy first (rw parts_are at can.roomy);

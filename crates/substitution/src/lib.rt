@@ -7,7 +7,7 @@ ghost use Rattle.std.specs.Prelude.{◌≡◌, ◌≤◌};
 ghost use Rattle.substitution.specs.Raising.{lifted, made, Raisable, Raises};
 ghost use Rattle.substitution.specs.Placing.{Placeable, Places};
 
-use nodes::{FREE, UNKNOWN};
+use nodes::{FREE, Node, UNKNOWN};
 
 // A first number once free indices are raised: only the bound on them moves, as far as it can be told.
 fn lift(w: u64, amount: u64) -> u64
@@ -33,27 +33,29 @@ pub fn raise(room: &mut [u64], used: &mut usize, node: usize, amount: u64, depth
     if nodes::free_of(w) <= depth {
         return node;
     }
-    let x = room[2 * node + 1];
-    let kind = nodes::kind_of(w);
-    if kind == 1 {
-        if x <= depth {
-            return node;
+    match nodes::node_at(room, node) {
+        Node::Variable(index) => {
+            if index <= depth {
+                return node;
+            }
+            let at = *used;
+            *used = nodes::make_variable(room, at, index + amount);
+            at
         }
-        let at = *used;
-        *used = nodes::make_variable(room, at, x + amount);
-        return at;
+        Node::Abstraction(b) => {
+            let body = raise(room, used, b, amount, depth + 1);
+            let at = *used;
+            *used = nodes::put(room, at, lift(w, amount), body as u64);
+            at
+        }
+        Node::Application(l, r) => {
+            let left = raise(room, used, l, amount, depth);
+            let right = raise(room, used, r, amount, depth);
+            let at = *used;
+            *used = nodes::put(room, at, lift(w, amount), nodes::pair(left, right));
+            at
+        }
     }
-    if kind == 2 {
-        let body = raise(room, used, x as usize, amount, depth + 1);
-        let at = *used;
-        *used = nodes::put(room, at, lift(w, amount), body as u64);
-        return at;
-    }
-    let left = raise(room, used, nodes::left_of(x), amount, depth);
-    let right = raise(room, used, nodes::right_of(x), amount, depth);
-    let at = *used;
-    *used = nodes::put(room, at, lift(w, amount), nodes::pair(left, right));
-    at
 }
 
 // The argument put in, in a term under so many binders: the node that it becomes. A part in which nothing moves is
@@ -67,31 +69,33 @@ pub fn put_in(room: &mut [u64], used: &mut usize, node: usize, depth: u64, argum
     if nodes::free_of(w) <= depth {
         return node;
     }
-    let x = room[2 * node + 1];
-    let kind = nodes::kind_of(w);
-    if kind == 1 {
-        if x <= depth {
-            return node;
-        }
-        if x == depth + 1 {
-            if depth == 0 {
-                return argument;
+    match nodes::node_at(room, node) {
+        Node::Variable(index) => {
+            if index <= depth {
+                return node;
             }
-            return raise(room, used, argument, depth, 0);
+            if index == depth + 1 {
+                if depth == 0 {
+                    return argument;
+                }
+                return raise(room, used, argument, depth, 0);
+            }
+            let at = *used;
+            *used = nodes::make_variable(room, at, index - 1);
+            at
         }
-        let at = *used;
-        *used = nodes::make_variable(room, at, x - 1);
-        return at;
+        Node::Abstraction(b) => {
+            let body = put_in(room, used, b, depth + 1, argument);
+            let at = *used;
+            *used = nodes::make_abstraction(room, at, body);
+            at
+        }
+        Node::Application(l, r) => {
+            let left = put_in(room, used, l, depth, argument);
+            let right = put_in(room, used, r, depth, argument);
+            let at = *used;
+            *used = nodes::make_application(room, at, left, right);
+            at
+        }
     }
-    if kind == 2 {
-        let body = put_in(room, used, x as usize, depth + 1, argument);
-        let at = *used;
-        *used = nodes::make_abstraction(room, at, body);
-        return at;
-    }
-    let left = put_in(room, used, nodes::left_of(x), depth, argument);
-    let right = put_in(room, used, nodes::right_of(x), depth, argument);
-    let at = *used;
-    *used = nodes::make_application(room, at, left, right);
-    at
 }

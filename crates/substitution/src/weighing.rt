@@ -3,8 +3,7 @@ ghost use Rattle.substitution.specs.Weighing.{Measurable, Measures, Overflowable
 ghost use Rattle.substitution.specs.Weighing.{Weighable, Weighs};
 
 use calculus::GREATEST_NUMBER;
-use nodes::UNKNOWN;
-use term::larger;
+use nodes::{Node, UNKNOWN};
 
 // How often the argument is put in, the greatest depth at which it is (0 for none), and the height afterwards.
 #[derive(Clone, Copy)]
@@ -27,36 +26,38 @@ fn measure(room: &[u64], node: usize, depth: u64, height: u64) -> Measured
             height: nodes::height_of(w),
         };
     }
-    let x = room[2 * node + 1];
-    let kind = nodes::kind_of(w);
-    if kind == 1 {
-        if x == depth + 1 {
-            return Measured {
-                copies: 1,
-                deepest: x,
-                height,
-            };
+    match nodes::node_at(room, node) {
+        Node::Variable(index) => {
+            if index == depth + 1 {
+                return Measured {
+                    copies: 1,
+                    deepest: index,
+                    height,
+                };
+            }
+            Measured {
+                copies: 0,
+                deepest: 0,
+                height: 1,
+            }
         }
-        return Measured {
-            copies: 0,
-            deepest: 0,
-            height: 1,
-        };
-    }
-    if kind == 2 {
-        let body = measure(room, x as usize, depth + 1, height);
-        return Measured {
-            copies: body.copies,
-            deepest: body.deepest,
-            height: body.height + 1,
-        };
-    }
-    let left = measure(room, nodes::left_of(x), depth, height);
-    let right = measure(room, nodes::right_of(x), depth, height);
-    Measured {
-        copies: left.copies + right.copies,
-        deepest: larger(left.deepest, right.deepest),
-        height: larger(left.height, right.height) + 1,
+        Node::Abstraction(b) => {
+            let body = measure(room, b, depth + 1, height);
+            Measured {
+                copies: body.copies,
+                deepest: body.deepest,
+                height: body.height + 1,
+            }
+        }
+        Node::Application(l, r) => {
+            let left = measure(room, l, depth, height);
+            let right = measure(room, r, depth, height);
+            Measured {
+                copies: left.copies + right.copies,
+                deepest: left.deepest.max(right.deepest),
+                height: left.height.max(right.height) + 1,
+            }
+        }
     }
 }
 
@@ -69,21 +70,21 @@ fn overflows(room: &[u64], node: usize, amount: u64, depth: u64) -> bool
     if nodes::free_of(w) < UNKNOWN {
         return false;
     }
-    let x = room[2 * node + 1];
-    let kind = nodes::kind_of(w);
-    if kind == 1 {
-        if x <= depth {
-            return false;
+    match nodes::node_at(room, node) {
+        Node::Variable(index) => {
+            if index <= depth {
+                return false;
+            }
+            GREATEST_NUMBER - amount < index
         }
-        return GREATEST_NUMBER - amount < x;
+        Node::Abstraction(b) => overflows(room, b, amount, depth + 1),
+        Node::Application(l, r) => {
+            if overflows(room, l, amount, depth) {
+                return true;
+            }
+            overflows(room, r, amount, depth)
+        }
     }
-    if kind == 2 {
-        return overflows(room, x as usize, amount, depth + 1);
-    }
-    if overflows(room, nodes::left_of(x), amount, depth) {
-        return true;
-    }
-    overflows(room, nodes::right_of(x), amount, depth)
 }
 
 // Whether an argument that is put in takes an index past the greatest number: where it is put deepest, or nowhere.

@@ -5,8 +5,8 @@ use Rattle.nodes.proofs.+save.Given as goal
 abbrev pub decreases-save : goal.decreases-save
 decreases-save l = l.node
 
-abbrev pub invariant-loop-out : goal.invariant-loop-out
-invariant-loop-out l = On l.room l.node l.initial.out l.at l.here l.out l.to
+abbrev pub invariant-loop-index : goal.invariant-loop-index
+invariant-loop-index l = On l.room l.node l.initial.out l.at l.here l.out l.to
 
-abbrev pub decreases-loop-out : goal.decreases-loop-out
-decreases-loop-out l = l.here
+abbrev pub decreases-loop-index : goal.decreases-loop-index
+decreases-loop-index l = l.here

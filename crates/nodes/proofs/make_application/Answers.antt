@@ -24,10 +24,10 @@ returns c =
     rw (
       c.pack-facts.ensures,
       c.settle.ensures,
-      c.larger-2.ensures,
+      c.max-2.ensures,
       c.free_of-2.ensures,
       c.free_of.ensures,
-      c.larger.ensures,
+      c.max.ensures,
       c.height_of-2.ensures,
       c.height_of.ensures,
       c.nodes_of-2.ensures,

@@ -9,67 +9,62 @@ pub returns-then-free_of-depth : goal.returns-then-free_of-depth
 returns-then-free_of-depth t c =
     at_shared c.requires (omega arith)
 
-pub returns-then-x-depth : goal.returns-then-x-depth
-returns-then-x-depth t c =
-    at_bound c.requires c.kind_of-kind.ensures c.if-kind-eq1.true c.if-x-depth.true
+pub returns-then-index-depth : goal.returns-then-index-depth
+returns-then-index-depth t c =
+    at_bound c.requires c.node_at.ensures c.in-Variable.is c.if-index-depth.true
 
-pub overflow_add-x-then-kind-eq1 : goal.overflow_add-x-then-kind-eq1
-overflow_add-x-then-kind-eq1 t c =
-    let (fits, _) = variable_asks c.requires c.kind_of-kind.ensures c.if-kind-eq1.true
-    c.if-x-depth.false in
+pub overflow_add-index : goal.overflow_add-index
+overflow_add-index t c =
+    let (fits, _) = variable_asks c.requires c.node_at.ensures c.in-Variable.is
+    c.if-index-depth.false in
     omega arith
 
 pub make_variable-requires : goal.make_variable-requires
 make_variable-requires t c =
-    (variable_asks c.requires c.kind_of-kind.ensures c.if-kind-eq1.true c.if-x-depth.false).1
+    (variable_asks c.requires c.node_at.ensures c.in-Variable.is c.if-index-depth.false).1
 
-pub returns-then-kind-eq1 : goal.returns-then-kind-eq1
-returns-then-kind-eq1 t c =
+pub returns-else-index-depth : goal.returns-else-index-depth
+returns-else-index-depth t c =
     let (next, same, new) = c.make_variable.ensures in
-    at_variable c.requires c.kind_of-kind.ensures c.if-kind-eq1.true c.if-x-depth.false next same
+    at_variable c.requires c.node_at.ensures c.in-Variable.is c.if-index-depth.false next same
     new
 
 pub raise-body-requires : goal.raise-body-requires
 raise-body-requires t c =
-    let (falls, asks) = body_asks c.requires c.kind_of-kind.ensures c.if-kind-eq2.true in
+    let (falls, asks) = body_asks c.requires c.node_at.ensures c.in-Abstraction.is in
     (omega arith, asks)
 
 pub put-requires : goal.put-requires
 put-requires t c =
-    abstraction_asks c.requires c.kind_of-kind.ensures c.if-kind-eq2.true c.raise-body.ensures
+    abstraction_asks c.requires c.node_at.ensures c.in-Abstraction.is c.raise-body.ensures
 
-pub returns-then-kind-eq2 : goal.returns-then-kind-eq2
-returns-then-kind-eq2 t c =
-    at_abstraction c.requires c.kind_of-kind.ensures c.if-kind-eq2.true c.raise-body.ensures
+pub returns-in-Abstraction : goal.returns-in-Abstraction
+returns-in-Abstraction t c =
+    at_abstraction c.requires c.node_at.ensures c.in-Abstraction.is c.raise-body.ensures
     c.lift.ensures c.put.ensures
 
 pub raise-left-requires : goal.raise-left-requires
 raise-left-requires t c =
-    let (falls, asks) = left_asks c.requires c.kind_of-kind.ensures c.if-kind-eq1.false
-    c.if-kind-eq2.false c.left_of.ensures in
+    let (falls, asks) = left_asks c.requires c.node_at.ensures c.in-Application.is in
     (omega arith, asks)
 
 pub raise-right-requires : goal.raise-right-requires
 raise-right-requires t c =
-    let (falls, asks) = right_asks c.requires c.kind_of-kind.ensures c.if-kind-eq1.false
-    c.if-kind-eq2.false c.left_of.ensures c.raise-left.ensures c.right_of.ensures in
+    let (falls, asks) = right_asks c.requires c.node_at.ensures c.in-Application.is c.raise-left.ensures in
     (omega arith, asks)
 
 pub pair-requires : goal.pair-requires
 pair-requires t c =
-    let (l, r, low, _) = application_asks c.requires c.kind_of-kind.ensures c.if-kind-eq1.false
-    c.if-kind-eq2.false c.left_of.ensures c.raise-left.ensures c.right_of.ensures
+    let (l, r, low, _) = application_asks c.requires c.node_at.ensures c.in-Application.is c.raise-left.ensures
     c.raise-right.ensures in
     (omega arith, omega arith)
 
-pub put-requires-2 : goal.put-requires-2
-put-requires-2 t c =
-    (application_asks c.requires c.kind_of-kind.ensures c.if-kind-eq1.false c.if-kind-eq2.false
-    c.left_of.ensures c.raise-left.ensures c.right_of.ensures
+pub put-requires-in-Application : goal.put-requires-in-Application
+put-requires-in-Application t c =
+    (application_asks c.requires c.node_at.ensures c.in-Application.is c.raise-left.ensures
     c.raise-right.ensures).3
 
-pub returns : goal.returns
-returns t c =
-    at_application c.requires c.kind_of-kind.ensures c.if-kind-eq1.false c.if-kind-eq2.false
-    c.left_of.ensures c.raise-left.ensures c.right_of.ensures
-    c.raise-right.ensures c.lift-2.ensures c.pair.ensures c.put-2.ensures
+pub returns-in-Application : goal.returns-in-Application
+returns-in-Application t c =
+    at_application c.requires c.node_at.ensures c.in-Application.is c.raise-left.ensures
+    c.raise-right.ensures c.lift-in-Application.ensures c.pair.ensures c.put-in-Application.ensures
