@@ -9,10 +9,11 @@ use Rattle.calculus.specs.Orders.{Order, step}
 use Rattle.calculus.specs.Traits.{spine, eager, late, NotLam}
 use Rattle.calculus.proofs.NextStep.{Stuck, Unless}
 use Rattle.calculus.proofs.Spines.{spine-rests}
-use Rattle.nodes.specs.Packing.{kind_in}
+use Rattle.nodes.specs.Node.{node_in}
+use Rattle.nodes.specs.declared.Node.{Node}
+use Rattle.nodes.specs.declared.Node.TheVariants.{Application}
 use Rattle.nodes.specs.Store.{word, link}
-use Rattle.nodes.proofs.Parts.{HeldApplication}
-use Rattle.nodes.proofs.Holding.{is-application}
+use Rattle.nodes.proofs.Parts.{HeldApplication, held-application}
 use Rattle.engine.specs.Running.{Start, started, most, Ready, Rested, Ran, Runs}
 use Rattle.engine.specs.Joining.{Parts, Joined, Parted, Here, Resting}
 use Rattle.engine.specs.States.{State, placed}
@@ -218,10 +219,10 @@ module _ {o : Order} {depth : ℕ} {l r : Term} {s : State} {room : List ℕ} (r
       }
 
 -- a node that is an application
-module _ {o : Order} {depth : ℕ} {t : Term} {s : State} {room : List ℕ} (rested : Rested o t room depth s) {k : ℕ}
-    (told : k ≡ kind_in (word room s.node)) (three : k ≡ 3) where
-  pub forked : HeldApplication room s.node t
-  forked = is-application room s.node told t rested.ready.holds (λ one. omega arith) (λ two. omega arith)
+module _ {o : Order} {depth : ℕ} {t : Term} {s : State} {room : List ℕ} (rested : Rested o t room depth s) {found : Node}
+    (told : found ≡ node_in (word room s.node) (link room s.node)) {m n : ℕ} (is : found ≡ Application m n) where
+  pub forked : HeldApplication room s.node m n t
+  forked = held-application room s.node told t rested.ready.holds is
 
   pub as_application : Rested o (app forked.left forked.right) room depth s
   as_application = rw forked.same at rested

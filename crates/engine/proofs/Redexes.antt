@@ -14,11 +14,12 @@ use Rattle.calculus.specs.Substitution.{contract}
 use Rattle.calculus.specs.Ends.{go_on, stay_so}
 use Rattle.calculus.proofs.NextStep.{next-step, at_here, shape}
 use Rattle.calculus.proofs.Running.{accepted_then}
-use Rattle.nodes.specs.Packing.{kind_in}
-use Rattle.nodes.specs.Store.{Holds, Same, word, kind}
+use Rattle.nodes.specs.Node.{node_in}
+use Rattle.nodes.specs.declared.Node.{Node}
+use Rattle.nodes.specs.declared.Node.TheVariants.{Abstraction}
+use Rattle.nodes.specs.Store.{Holds, Same, word, kind, link}
 use Rattle.nodes.proofs.Keeping.{holds_kept, says, same_then}
-use Rattle.nodes.proofs.Parts.{HeldAbstraction}
-use Rattle.nodes.proofs.Holding.{is-abstraction}
+use Rattle.nodes.proofs.Parts.{HeldAbstraction, held-abstraction, reads_abstraction}
 use Rattle.engine.specs.Running.{Start, most, Stops, rested, stepped, spent, full, refuses, moved, Ran}
 use Rattle.engine.specs.Judging.{tells_high, tells_many, tells_great}
 use Rattle.engine.specs.Joining.{Together, together, apart, Parts, Here, Resting}
@@ -66,21 +67,23 @@ parts-kept {a = a} {l} {r} {left} {right} {used} was same =
 module _ {o : Order} {depth whole left right : ℕ} {a : Start} {l r : Term} {s : State} {room : List ℕ}
     (here : Here o depth a l r whole left right s room) where
   -- by the kind of the function part
-  module _ {k : ℕ} (told : k ≡ kind_in (word room left)) where
+  module _ {found : Node} (told : found ≡ node_in (word room left) (link room left)) where
     abbrev at_left-node : Holds room l left
     at_left-node = here.parted.parts.holds_left
 
-    pub no-abstraction : (k ≡ 2 → ⊥) → NotLam l
+    pub no-abstraction : ((n : ℕ) → found ≡ Abstraction n → ⊥) → NotLam l
     unfolding kind
     no-abstraction other =
         elim (shape l) [
-          | inl (b, is) ↦ absurd (other (told ∙ (says room l left at_left-node).kind_is ∙ ap kind is))
+          | inl (b, is) ↦
+              (let two = (says room l left at_left-node).kind_is ∙ ap kind is in
+              absurd (other _ (told ∙ reads_abstraction (word room left) (link room left) two)))
           | inr other ↦ other
         ]
 
-    module _ (two : k ≡ 2) where
-      abbrev function : HeldAbstraction room left l
-      function = is-abstraction room left told l at_left-node two
+    module _ {n : ℕ} (is : found ≡ Abstraction n) where
+      abbrev function : HeldAbstraction room left n l
+      function = held-abstraction room left told l at_left-node is
 
       redex : Redex function.body r depth s left right room
       redex =

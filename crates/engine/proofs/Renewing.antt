@@ -7,13 +7,16 @@ use lib.ListN.{length, drop, set, length-drop}
 use lib.Seq.{drop-set-add}
 use Rattle.calculus.specs.Term.{Term, var, lam, app, nodes}
 use Rattle.calculus.proofs.Measures.{nodes_positive}
-use Rattle.nodes.specs.Packing.{kind_in}
 use Rattle.nodes.specs.Store.{Says, Holds, Same, word, link}
+use Rattle.nodes.specs.Node.{node_in}
+use Rattle.nodes.specs.declared.Node.{Node}
+use Rattle.nodes.specs.declared.Node.TheVariants.{Variable, Abstraction, Application}
 use Rattle.nodes.proofs.Keeping.{same_refl, same_then, holds_kept, says}
 use Rattle.nodes.proofs.Stored.{stored}
 use Rattle.nodes.proofs.Making.{variable-made, abstraction-made, application-made}
 use Rattle.nodes.proofs.Parts.{HeldAbstraction, HeldApplication}
-use Rattle.nodes.proofs.Holding.{is-variable, is-abstraction, is-application, held_once}
+use Rattle.nodes.proofs.Parts.{held-variable, held-abstraction, held-application}
+use Rattle.nodes.proofs.Holding.{held_once}
 use Rattle.engine.specs.Moving.{from_base, Copiable, Copies}
 
 -- A NODE PUT at a number that is counted from a base
@@ -71,32 +74,31 @@ module _ (base top w x : ℕ) (mid : List ℕ) {next : ℕ} {after : List ℕ} (
       }
 
 -- THE COPY of a node's term
-module _ {t : Term} {store : List ℕ} {node base used : ℕ} (can : Copiable t store node base used) {k : ℕ}
-    (told : k ≡ kind_in (word store node)) where
+module _ {t : Term} {store : List ℕ} {node base used : ℕ} (can : Copiable t store node base used)
+    {found : Node} (told : found ≡ node_in (word store node) (link store node)) where
   said : Says (word store node) t
   said = says store t node can.holds
 
   pub variable-fits : (base + used < 4294967296) × (2 * (base + used) + 2 ≤ length store)
   variable-fits = (omega (arith, can.fits, can.small), omega (arith, can.fits, nodes_positive t))
 
-  pub at_variable : {next : ℕ} {after : List ℕ} → k ≡ 1
-      → PutFrom base used (word store node) (link store node) store next after
+  pub at_variable : {i next : ℕ} {after : List ℕ} → found ≡ Variable i
+      → PutFrom base used (word store node) i store next after
       → Copies t store base used (next - base) after
   unfolding nodes
-  at_variable is put =
+  at_variable {i} is put =
       let w = word store node in
-      let x = link store node in
       let (_, fits) = variable-fits in
-      let same = is-variable store node told t can.holds is in
-      rw same (last-put base used w x store fits put (same_refl store base) (same_refl (from_base base store) used)
-      (omega arith) (omega arith) (variable-put base used w x store fits put (rw same at said)))
+      let same = held-variable store node told t can.holds is in
+      rw same (last-put base used w i store fits put (same_refl store base) (same_refl (from_base base store) used)
+      (omega arith) (omega arith) (variable-put base used w i store fits put (rw same at said)))
 
   -- AN ABSTRACTION
-  module _ (is : k ≡ 2) where
-    held : HeldAbstraction store node t
-    held = is-abstraction store node told t can.holds is
+  module _ {n : ℕ} (is : found ≡ Abstraction n) where
+    held : HeldAbstraction store node n t
+    held = held-abstraction store node told t can.holds is
 
-    body-can : Copiable held.body store (link store node) base used
+    body-can : Copiable held.body store n base used
     unfolding nodes
     body-can = record {
       holds = held.held;
@@ -105,11 +107,11 @@ module _ {t : Term} {store : List ℕ} {node base used : ℕ} (can : Copiable t 
       small = can.small;
     }
 
-    pub body_asks : (link store node < node) × ((b : Term) × Copiable b store (link store node) base used)
+    pub body_asks : (n < node) × ((b : Term) × Copiable b store n base used)
     body_asks = (held.below, (held.body, body-can))
 
     module _ {top : ℕ} {mid : List ℕ}
-        (copy : (b : Term) → Copiable b store (link store node) base used → Copies b store base used top mid) where
+        (copy : (b : Term) → Copiable b store n base used → Copies b store base used top mid) where
       body : Copies held.body store base used top mid
       body = copy held.body body-can
 
@@ -133,80 +135,78 @@ module _ {t : Term} {store : List ℕ} {node base used : ℕ} (can : Copiable t 
           (omega (arith, body.made)) (omega (arith, body.made)) new)
 
   -- AN APPLICATION
-  module _ (not1 : k ≡ 1 → ⊥) (not2 : k ≡ 2 → ⊥) where
-    parts : HeldApplication store node t
-    parts = is-application store node told t can.holds not1 not2
+  module _ {m n : ℕ} (is : found ≡ Application m n) where
+    parts : HeldApplication store node m n t
+    parts = held-application store node told t can.holds is
 
-    module _ {m : ℕ} (left_is : m ≡ link store node % 4294967296) where
-      left-can : Copiable parts.left store m base used
+    left-can : Copiable parts.left store m base used
+    unfolding nodes
+    left-can = record {
+      holds = parts.left_held;
+      below = omega (arith, parts.left_below, can.below);
+      fits = omega (arith, can.fits, ap nodes parts.same);
+      small = can.small;
+    }
+
+    pub left_asks : (m < node) × ((l : Term) × Copiable l store m base used)
+    left_asks = (omega (arith, parts.left_below), (parts.left, left-can))
+
+    module _ {middle : ℕ} {mid : List ℕ}
+        (copy_left : (l : Term) → Copiable l store m base used → Copies l store base used middle mid) where
+      left : Copies parts.left store base used middle mid
+      left = copy_left parts.left left-can
+
+      right-can : Copiable parts.right mid n base middle
       unfolding nodes
-      left-can = record {
-        holds = rw left_is parts.left_held;
-        below = omega (arith, parts.left_below, can.below);
-        fits = omega (arith, can.fits, ap nodes parts.same);
-        small = can.small;
+      right-can = record {
+        holds =
+            holds_kept parts.right n left.same (omega (arith, parts.right_below, can.below))
+            parts.right_held;
+        below = omega (arith, parts.right_below, can.below);
+        fits = omega (arith, left.made, left.same.as_long, can.fits, ap nodes parts.same);
+        small = omega (arith, left.same.as_long, can.small);
       }
 
-      pub left_asks : (m < node) × ((l : Term) × Copiable l store m base used)
-      left_asks = (omega (arith, parts.left_below), (parts.left, left-can))
+      pub right_asks : (n < node) × ((r : Term) × Copiable r mid n base middle)
+      right_asks = (omega (arith, parts.right_below), (parts.right, right-can))
 
-      module _ {middle : ℕ} {mid : List ℕ}
-          (copy_left : (l : Term) → Copiable l store m base used → Copies l store base used middle mid) {n : ℕ}
-          (right_is : n ≡ link store node / 4294967296) where
-        left : Copies parts.left store base used middle mid
-        left = copy_left parts.left left-can
+      module _ {top : ℕ} {end : List ℕ}
+          (copy_right : (r : Term) → Copiable r mid n base middle → Copies r mid base middle top end) where
+        right : Copies parts.right mid base middle top end
+        right = copy_right parts.right right-can
 
-        right-can : Copiable parts.right mid n base middle
+        pub application-fits : (0 < middle) × (middle < top) × (base + top < 4294967296)
+            × (2 * (base + top) + 2 ≤ length end)
         unfolding nodes
-        right-can = record {
-          holds =
-              holds_kept parts.right n left.same (omega (arith, parts.right_below, can.below))
-              (rw right_is parts.right_held);
-          below = omega (arith, parts.right_below, can.below);
-          fits = omega (arith, left.made, left.same.as_long, can.fits, ap nodes parts.same);
-          small = omega (arith, left.same.as_long, can.small);
-        }
+        application-fits =
+            let long = right.same.as_long ∙ left.same.as_long in (
+              omega (arith, left.made, nodes_positive parts.left),
+              omega (arith, right.made, nodes_positive parts.right),
+              omega (arith, right.made, left.made, can.fits, can.small, ap nodes parts.same),
+              omega (arith, right.made, left.made, can.fits, ap nodes parts.same),
+            )
 
-        pub right_asks : (n < node) × ((r : Term) × Copiable r mid n base middle)
-        right_asks = (omega (arith, parts.right_below), (parts.right, right-can))
-
-        module _ {top : ℕ} {end : List ℕ}
-            (copy_right : (r : Term) → Copiable r mid n base middle → Copies r mid base middle top end) where
-          right : Copies parts.right mid base middle top end
-          right = copy_right parts.right right-can
-
-          pub application-fits : (0 < middle) × (middle < top) × (base + top < 4294967296)
-              × (2 * (base + top) + 2 ≤ length end)
-          unfolding nodes
-          application-fits =
-              let long = right.same.as_long ∙ left.same.as_long in (
-                omega (arith, left.made, nodes_positive parts.left),
-                omega (arith, right.made, nodes_positive parts.right),
-                omega (arith, right.made, left.made, can.fits, can.small, ap nodes parts.same),
-                omega (arith, right.made, left.made, can.fits, ap nodes parts.same),
-              )
-
-          pub at_application : {x next : ℕ} {after : List ℕ} → x ≡ middle - 1 + 4294967296 * (top - 1)
-              → PutFrom base top (word store node) x end next after
-              → Copies t store base used (next - base) after
-          unfolding nodes
-          at_application {x} pair put =
-              let w = word store node in
-              let (first, second, low, fits) = application-fits in
-              let left_holds = holds_kept parts.left (middle - 1) right.kept (omega arith) left.holds in
-              let new = application-put base top w x end fits put parts.left parts.right pair
-              (omega arith) (omega arith) (omega arith) left_holds right.holds (rw parts.same at said) in
-              rw parts.same (last-put base top w x end fits put (same_then (omega arith) left.same right.same)
-              (same_then (omega (arith, left.made)) left.kept right.kept) (omega (arith, left.made))
-              (omega (arith, left.made, right.made)) new)
+        pub at_application : {x next : ℕ} {after : List ℕ} → x ≡ middle - 1 + 4294967296 * (top - 1)
+            → PutFrom base top (word store node) x end next after
+            → Copies t store base used (next - base) after
+        unfolding nodes
+        at_application {x} pair put =
+            let w = word store node in
+            let (first, second, low, fits) = application-fits in
+            let left_holds = holds_kept parts.left (middle - 1) right.kept (omega arith) left.holds in
+            let new = application-put base top w x end fits put parts.left parts.right pair
+            (omega arith) (omega arith) (omega arith) left_holds right.holds (rw parts.same at said) in
+            rw parts.same (last-put base top w x end fits put (same_then (omega arith) left.same right.same)
+            (same_then (omega (arith, left.made)) left.kept right.kept) (omega (arith, left.made))
+            (omega (arith, left.made, right.made)) new)
 
 -- the parts of an application that a node is, and their sizes
-pub parts_held : {t : Term} {store : List ℕ} {node : ℕ} → Holds store t node → (kind_in (word store node) ≡ 1 → ⊥)
-    → (kind_in (word store node) ≡ 2 → ⊥)
-    → Holds store t node × ((v : HeldApplication store node t) × (nodes t ≡ nodes v.left + nodes v.right + 1))
+pub parts_held : {t : Term} {store : List ℕ} {node : ℕ} → Holds store t node → {found : Node}
+    → found ≡ node_in (word store node) (link store node) → {m n : ℕ} → found ≡ Application m n
+    → Holds store t node × ((v : HeldApplication store node m n t) × (nodes t ≡ nodes v.left + nodes v.right + 1))
 unfolding nodes
-parts_held {t} {store} {node} held not1 not2 =
-    let v = is-application store node refl t held not1 not2 in
+parts_held {t} {store} {node} held told is =
+    let v = held-application store node told t held is in
     (held, (v, omega (arith, ap nodes v.same)))
 
 -- a node below those that were added is still the term

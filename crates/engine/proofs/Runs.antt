@@ -6,6 +6,8 @@ use mathlib.Core.Option.{none}
 use mathlib.Core.List.{List}
 use native.Mathlib.Omega.{arith}
 use lib.ListN.{length}
+use lib.Dec.{eqb}
+use borrow.Author.Tests.{eqb-true}
 use Rattle.calculus.specs.Term.{Term, lam, app, nodes, height}
 use Rattle.calculus.specs.Bounds.{most_height}
 use Rattle.calculus.specs.Orders.{Order, step, enters}
@@ -13,10 +15,13 @@ use Rattle.calculus.specs.Ends.{Accepted, stay_so}
 use Rattle.calculus.proofs.NextStep.{next-body, no_body}
 use Rattle.calculus.proofs.Tests.{flipped}
 use Rattle.calculus.proofs.Running.{accepted_then}
-use Rattle.nodes.specs.Packing.{kind_in, normal_in}
+use Rattle.nodes.specs.Packing.{normal_in}
+use Rattle.nodes.specs.Node.{node_in}
+use Rattle.nodes.specs.declared.Node.{Node}
+use Rattle.nodes.specs.declared.Node.TheVariants.{Variable, Abstraction, Application}
 use Rattle.nodes.specs.Store.{Holds, Same, variable, word, link}
 use Rattle.nodes.proofs.Keeping.{same_refl, same_then, holds_kept, says}
-use Rattle.nodes.proofs.Holding.{is-variable, is-abstraction, is-application}
+use Rattle.nodes.proofs.Parts.{held-variable, held-abstraction, held-application}
 use Rattle.engine.specs.Judging.{judge_at}
 use Rattle.engine.specs.Running.{Start, started, most, Stops, rested}
 use Rattle.engine.specs.Running.{Kept, unmoved, moved, Ready, Ran, Runs}
@@ -60,16 +65,17 @@ kept_on (moved lt fits) (unmoved e2 n2 u2) = moved (omega arith) (omega arith)
 kept_on (moved lt fits) (moved lt2 fits2) = moved (omega arith) fits2
 
 -- by the kind of the node, what a call asks
-module _ {t : Term} {s : State} {room : List ℕ} {depth k : ℕ} (ready : Ready t room depth s)
-    (told : k ≡ kind_in (word room s.node)) where
-  pub abstraction_asks : k ≡ 2 → (b : Term) × Ready (lam b) room depth s
-  abstraction_asks two =
-      let v = is-abstraction room s.node told t ready.holds two in
+module _ {t : Term} {s : State} {room : List ℕ} {depth : ℕ} (ready : Ready t room depth s) {found : Node}
+    (told : found ≡ node_in (word room s.node) (link room s.node)) where
+  pub abstraction_asks : {n : ℕ} → found ≡ Abstraction n → (b : Term) × Ready (lam b) room depth s
+  abstraction_asks is =
+      let v = held-abstraction room s.node told t ready.holds is in
       (v.body, rw v.same at ready)
 
-  pub application_asks : (k ≡ 1 → ⊥) → (k ≡ 2 → ⊥) → (l : Term) × (r : Term) × Ready (app l r) room depth s
-  application_asks not1 not2 =
-      let v = is-application room s.node told t ready.holds not1 not2 in
+  pub application_asks : {m n : ℕ} → found ≡ Application m n
+      → (l : Term) × (r : Term) × Ready (app l r) room depth s
+  application_asks is =
+      let v = held-application room s.node told t ready.holds is in
       (v.left, v.right, rw v.same at ready)
 
 module _ {o : Order} {depth : ℕ} where
@@ -156,30 +162,31 @@ module _ {o : Order} {depth : ℕ} where
 
   -- A ROUND, by what the node says of its term
   module _ {t : Term} {s : State} {room : List ℕ} (ready : Ready t room depth s) where
-    pub stays_normal : {n : ℕ} → n ≡ normal_in (word room s.node) → n ≡ 1
+    pub stays_normal : {b : Bool} → b ≡ eqb (normal_in (word room s.node)) 1 → b ≡ true
         → Ran o depth (started t s room) (halted s Rested) room
-    stays_normal told one =
-        stays ready (normal-stuck o ((says room t s.node ready.holds).is_normal (sym told ∙ one)))
+    stays_normal told is =
+        let one = eqb-true (normal_in (word room s.node)) 1 (sym told ∙ is) in
+        stays ready (normal-stuck o ((says room t s.node ready.holds).is_normal one))
 
-    module _ {k : ℕ} (told : k ≡ kind_in (word room s.node)) where
-      pub stays_variable : k ≡ 1 → Ran o depth (started t s room) (halted s Rested) room
-      stays_variable one =
-          let variable_is = is-variable room s.node told t ready.holds one in
+    module _ {found : Node} (told : found ≡ node_in (word room s.node) (link room s.node)) where
+      pub stays_variable : {i : ℕ} → found ≡ Variable i → Ran o depth (started t s room) (halted s Rested) room
+      stays_variable is =
+          let variable_is = held-variable room s.node told t ready.holds is in
           stays ready (rw variable_is (normal-stuck o variable))
 
       module _ {q : State} {after : List ℕ} where
-        pub in_abstraction : k ≡ 2
+        pub in_abstraction : {n : ℕ} → found ≡ Abstraction n
             → ((b : Term) → Ready (lam b) room depth s → Ran o depth (started (lam b) s room) q after)
             → Ran o depth (started t s room) q after
-        in_abstraction two ran =
-            let v = is-abstraction room s.node told t ready.holds two in
+        in_abstraction is ran =
+            let v = held-abstraction room s.node told t ready.holds is in
             rw v.same (ran v.body (rw v.same at ready))
 
-        pub in_application : (k ≡ 1 → ⊥) → (k ≡ 2 → ⊥)
+        pub in_application : {m n : ℕ} → found ≡ Application m n
             → ((l r : Term) → Ready (app l r) room depth s → Ran o depth (started (app l r) s room) q after)
             → Ran o depth (started t s room) q after
-        in_application not1 not2 ran =
-            let v = is-application room s.node told t ready.holds not1 not2 in
+        in_application is ran =
+            let v = held-application room s.node told t ready.holds is in
             rw v.same (ran v.left v.right (rw v.same at ready))
 
   -- A NODE MADE AGAIN, once its parts stop

@@ -2,6 +2,8 @@
 ghost use Rattle.calculus.specs.Term.{Term};
 ghost use Rattle.engine.specs.Moving.{Copiable, Copies, Movable, Moves};
 
+use nodes::Node;
+
 // Of the store's eight numbers for each node of the cap, the first six are nodes. The last two hold a term that moves.
 pub(crate) const FIRST: usize = 6;
 
@@ -13,18 +15,18 @@ pub(crate) fn copy(store: &mut [u64], node: usize, base: usize, used: usize) -> 
         → Copies t store.old base used result store.new }
 {
     let w = store[2 * node];
-    let x = store[2 * node + 1];
-    let kind = nodes::kind_of(w);
-    if kind == 1 {
-        return nodes::put(store, base + used, w, x) - base;
+    match nodes::node_at(store, node) {
+        Node::Variable(index) => nodes::put(store, base + used, w, index) - base,
+        Node::Abstraction(b) => {
+            let top = copy(store, b, base, used);
+            nodes::put(store, base + top, w, (top - 1) as u64) - base
+        }
+        Node::Application(l, r) => {
+            let middle = copy(store, l, base, used);
+            let top = copy(store, r, base, middle);
+            nodes::put(store, base + top, w, nodes::pair(middle - 1, top - 1)) - base
+        }
     }
-    if kind == 2 {
-        let top = copy(store, x as usize, base, used);
-        return nodes::put(store, base + top, w, (top - 1) as u64) - base;
-    }
-    let middle = copy(store, nodes::left_of(x), base, used);
-    let top = copy(store, nodes::right_of(x), base, middle);
-    nodes::put(store, base + top, w, nodes::pair(middle - 1, top - 1)) - base
 }
 
 // So many nodes from a base on become the first nodes.

@@ -1,24 +1,24 @@
-// What a node's first number alone tells: that an order does nothing there.
-ghost use Rattle.std.specs.Prelude.{◌≡◌, true};
+// What a node alone tells: that an order does nothing there.
+ghost use Rattle.std.specs.Prelude.{◌≡◌, ◌+◌, ◌*◌, ◌≤◌, true, length};
+ghost use Rattle.nodes.specs.Store.{word};
 ghost use Rattle.orders.specs.Orders.{order_of};
 ghost use Rattle.engine.specs.Running.{Rests};
 
+use nodes::Node;
 use orders::Order;
 
-// Whether a first number tells that its node is at rest: it is normal, or the order does not enter it.
+// Whether a node tells that it is at rest: it is normal, or the order does not enter it.
 #[tactic(auto, using(crate::proofs::AtRest::resting))]
-pub(crate) fn at_rest(order: Order, w: u64) -> bool
-    ensures { result ≡ true → Rests (order_of order) w }
+pub(crate) fn at_rest(order: Order, room: &[u64], node: usize) -> bool
+    requires { 2 * node + 2 ≤ length room.now }
+    ensures { result ≡ true → Rests (order_of order) (word room.now node) }
 {
-    if nodes::normal_of(w) == 1 {
+    if nodes::is_normal(room[2 * node]) {
         return true;
     }
-    let kind = nodes::kind_of(w);
-    if kind == 1 {
-        return true;
+    match nodes::node_at(room, node) {
+        Node::Variable(_) => true,
+        Node::Abstraction(_) => !order.enters_bodies(),
+        Node::Application(_, _) => false,
     }
-    if kind == 2 {
-        return !order.enters_bodies();
-    }
-    false
 }

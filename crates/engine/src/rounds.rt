@@ -9,6 +9,7 @@ use crate::contracting::contract;
 use crate::joining::{rebind, rejoin};
 use crate::resting::at_rest;
 use crate::{At, Stop, Work};
+use nodes::Node;
 use orders::Order;
 
 // Steps in a part, and none where it is at rest: most parts are.
@@ -17,7 +18,7 @@ fn run_part(room: &mut [u64], work: &mut Work, order: Order, node: usize, depth:
     requires { (t : Term) × Ready t room.old depth (standing node work.old) }
     ensures { Runs (order_of order) room.old depth (standing node work.old) (told result work.new) room.new }
 {
-    if at_rest(order, room[2 * node]) {
+    if at_rest(order, room, node) {
         return At {
             node,
             stop: Stop::Rested,
@@ -49,24 +50,20 @@ fn round(room: &mut [u64], work: &mut Work, order: Order, node: usize, depth: u6
     ensures { (t : Term)
         → RunsOn (order_of order) t room.old depth (standing node work.old) (told result work.new) room.new }
 {
-    let w = room[2 * node];
-    if nodes::normal_of(w) == 1 {
+    if nodes::is_normal(room[2 * node]) {
         return At {
             node,
             stop: Stop::Rested,
         };
     }
-    let kind = nodes::kind_of(w);
-    if kind == 1 {
-        return At {
+    match nodes::node_at(room, node) {
+        Node::Variable(_) => At {
             node,
             stop: Stop::Rested,
-        };
+        },
+        Node::Abstraction(_) => in_body(room, work, order, node, depth),
+        Node::Application(_, _) => in_parts(room, work, order, node, depth),
     }
-    if kind == 2 {
-        return in_body(room, work, order, node, depth);
-    }
-    in_parts(room, work, order, node, depth)
 }
 
 // In an abstraction.
@@ -127,7 +124,7 @@ fn here(
         → Here (order_of order) depth a l r whole left right (lent work.old) room.old
         → Ran (order_of order) depth a (told result work.new) room.new }
 {
-    if nodes::kind_of(room[2 * left]) == 2 {
+    if let Node::Abstraction(_) = nodes::node_at(room, left) {
         let c = contract(room, work, left, right, depth);
         if c.stop == Stop::Stepped {
             return c;
@@ -148,19 +145,15 @@ fn further(room: &mut [u64], work: &mut Work, order: Order, whole: usize, depth:
     ensures { (t : Term) → Rested (order_of order) t room.old depth (standing whole work.old)
         → Ran (order_of order) depth (started t (standing whole work.old) room.old) (told result work.new) room.new }
 {
-    let w = room[2 * whole];
-    if at_rest(order, w) {
+    if at_rest(order, room, whole) {
         return At {
             node: whole,
             stop: Stop::Rested,
         };
     }
-    if nodes::kind_of(w) != 3 {
+    let Node::Application(left, right) = nodes::node_at(room, whole) else {
         return round(room, work, order, whole, depth);
-    }
-    let x = room[2 * whole + 1];
-    let left = nodes::left_of(x);
-    let right = nodes::right_of(x);
+    };
     if !order.is_eager() {
         return rest(room, work, order, whole, left, right, depth);
     }

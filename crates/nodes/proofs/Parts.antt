@@ -27,6 +27,7 @@ module _ (w x : ℕ) where
 module _ (xs : List ℕ) (n : ℕ) where
   pub record HeldAbstraction (b : ℕ) (t : Term) : Type 0 where
     pub body : Term
+    pub body_is : b ≡ link xs n
     pub same : t ≡ lam body
     pub below : b < n
     pub held : Holds xs body b
@@ -34,6 +35,8 @@ module _ (xs : List ℕ) (n : ℕ) where
   pub record HeldApplication (l r : ℕ) (t : Term) : Type 0 where
     pub left : Term
     pub right : Term
+    pub left_is : l ≡ link xs n % 4294967296
+    pub right_is : r ≡ link xs n / 4294967296
     pub same : t ≡ app left right
     pub left_below : l < n
     pub right_below : r < n
@@ -58,7 +61,7 @@ module _ (xs : List ℕ) (n : ℕ) where
         absurd (omega arith)
     held-abstraction (lam u) h {b} is =
         let e : link xs n ≡ b = cc (told, is, reads_abstraction (word xs n) (link xs n) h.0.kind_is) in
-        record { body = u; same = refl; below = rw e at h.1; held = rw e at h.2 }
+        record { body = u; body_is = sym e; same = refl; below = rw e at h.1; held = rw e at h.2 }
     held-abstraction (app l r) h is =
         let never : ◌≡◌ {A = ℕ} 0 1 = cc (told, is, reads_application (word xs n) (link xs n) h.0.kind_is) in
         absurd (omega arith)
@@ -77,6 +80,8 @@ module _ (xs : List ℕ) (n : ℕ) where
         let k : link xs n / 4294967296 ≡ r = cc (told, is, whole) in record {
           left = t;
           right = u;
+          left_is = sym m;
+          right_is = sym k;
           same = refl;
           left_below = rw m at h.1;
           right_below = rw k at h.2;

@@ -18,7 +18,7 @@ use Rattle.engine.proofs.Told.{resting-lent, here-lent, gone_placed}
 use Rattle.engine.proofs.AtRest.{at_once}
 use Rattle.engine.specs.declared.Stop.TheVariants.{Rested}
 use Rattle.engine.proofs.Comparing.{eq_true, eq_false, ne_true, ne_false}
-use Rattle.engine.proofs.Places.{FurtherRun, rejoined, as_application, as_it_was, rest_at_once, argument_asks, argument_halts, rest-after, SpineRun, ArgumentRun, spine_halts, spine-here, early_asks, early_halts, early_here, function_asks, function_halts, late_asks, late_halts}
+use Rattle.engine.proofs.Places.{FurtherRun, rejoined, forked, as_application, as_it_was, rest_at_once, argument_asks, argument_halts, rest-after, SpineRun, ArgumentRun, spine_halts, spine-here, early_asks, early_halts, early_here, function_asks, function_halts, late_asks, late_halts}
 use Rattle.engine.proofs.Redexes.{contract_asks, contracted-ran, contracted_halts, no-abstraction, rest_asks, plain_halts}
 use Rattle.calculus.specs.Traits.{eager, late}
 use Rattle.engine.proofs.Phases.{begun, left_asks}
@@ -34,7 +34,7 @@ further-argued t c =
 argument-run : (t : ℕ) (c : further-After-further-q t)
     → let a = c.args in
     FurtherRun (order_of a.order) a.depth
-    (standing a.whole a.work.now) c.right_of-right.result
+    (standing a.whole a.work.now) c.in-Application.right
     a.room.now (further-argued t c) c.further-q.new.room
 argument-run t c = record {
   fit = search rules;
@@ -117,27 +117,18 @@ further-returns-then-at_rest t c =
     λ u rested.
     (at_once (c.at_rest.ensures c.if-at_rest.true)).ran u rested.ready
 
-pub further-round-requires : goal.further-round-requires
-further-round-requires t c =
-    let (u, rested) = c.requires in
-    (omega (arith, c.decreases), (u, rested.ready))
-
-pub further-returns-then-kind_of-ne3 : goal.further-returns-then-kind_of-ne3
-further-returns-then-kind_of-ne3 t c =
-    λ u rested. c.round.ensures u rested.ready
-
 pub further-rest-requires : goal.further-rest-requires
 further-rest-requires t c =
     let (u, rested) = c.requires in
-    let fork = as_application rested c.kind_of.ensures c.if-kind_of-ne3.false in
+    let parts = forked rested c.node_at.ensures c.in-Application.is in
+    let fork = as_application rested c.node_at.ensures c.in-Application.is in
     let lazy = turned_about c.is_eager.ensures (ap not c.if-not-is_eager.true) in (
       omega (arith, c.decreases),
       (
         _,
         _,
         _,
-        resting-lent (rest_at_once fork c.left_of-left.ensures
-            c.right_of-right.ensures lazy),
+        resting-lent (rest_at_once fork parts.left_is parts.right_is lazy),
       ),
     )
 
@@ -145,32 +136,27 @@ pub further-returns-then-not-is_eager : goal.further-returns-then-not-is_eager
 further-returns-then-not-is_eager t c =
     let lazy = turned_about c.is_eager.ensures (ap not c.if-not-is_eager.true) in
     λ u rested.
-    let fork = as_application rested c.kind_of.ensures c.if-kind_of-ne3.false in
-    as_it_was rested c.kind_of.ensures c.if-kind_of-ne3.false
-    (c.rest.ensures _ _ _ (resting-lent (rest_at_once fork c.left_of-left.ensures
-    c.right_of-right.ensures lazy)))
-
-pub further-overflow_add-depth : goal.further-overflow_add-depth
-further-overflow_add-depth t c =
-    let (u, rested) = c.requires in
-    let fork = as_application rested c.kind_of.ensures c.if-kind_of-ne3.false in
-    let on = turned_about c.is_eager.ensures (ap not c.if-not-is_eager.false) in
-    omega (arith, (argument_asks fork c.left_of-left.ensures c.right_of-right.ensures on).ready.deep)
+    let parts = forked rested c.node_at.ensures c.in-Application.is in
+    let fork = as_application rested c.node_at.ensures c.in-Application.is in
+    as_it_was rested c.node_at.ensures c.in-Application.is
+    (c.rest.ensures _ _ _ (resting-lent (rest_at_once fork parts.left_is parts.right_is lazy)))
 
 pub further-further-q-requires : goal.further-further-q-requires
 further-further-q-requires t c =
     let (u, rested) = c.requires in
-    let fork = as_application rested c.kind_of.ensures c.if-kind_of-ne3.false in
+    let parts = forked rested c.node_at.ensures c.in-Application.is in
+    let fork = as_application rested c.node_at.ensures c.in-Application.is in
     let on = turned_about c.is_eager.ensures (ap not c.if-not-is_eager.false) in
-    let asks = argument_asks fork c.left_of-left.ensures c.right_of-right.ensures on in
+    let asks = argument_asks fork parts.left_is parts.right_is on in
     (omega (arith, c.decreases, asks.ready.deep), (_, asks))
 
 pub further-rejoin-requires : goal.further-rejoin-requires
 further-rejoin-requires t c =
     let (u, rested) = c.requires in
-    let fork = as_application rested c.kind_of.ensures c.if-kind_of-ne3.false in
+    let parts = forked rested c.node_at.ensures c.in-Application.is in
+    let fork = as_application rested c.node_at.ensures c.in-Application.is in
     let on = turned_about c.is_eager.ensures (ap not c.if-not-is_eager.false) in
-    let halts = argument_halts fork c.left_of-left.ensures c.right_of-right.ensures on
+    let halts = argument_halts fork parts.left_is parts.right_is on
     (argument-run t (goal.at.further-rejoin-requires t c).After-further-q)
     (ne_true c.ne.ensures c.if-ne.true) in
     (_, _, _, _, _, halts.parted.parts, refl)
@@ -179,9 +165,10 @@ pub further-returns-then-ne : goal.further-returns-then-ne
 further-returns-then-ne t c =
     let on = turned_about c.is_eager.ensures (ap not c.if-not-is_eager.false) in
     λ u rested.
-    let fork = as_application rested c.kind_of.ensures c.if-kind_of-ne3.false in
-    as_it_was rested c.kind_of.ensures c.if-kind_of-ne3.false
-    (rejoined (argument_halts fork c.left_of-left.ensures c.right_of-right.ensures on
+    let parts = forked rested c.node_at.ensures c.in-Application.is in
+    let fork = as_application rested c.node_at.ensures c.in-Application.is in
+    as_it_was rested c.node_at.ensures c.in-Application.is
+    (rejoined (argument_halts fork parts.left_is parts.right_is on
     (argument-run t (goal.at.further-returns-then-ne t c).After-further-q)
     (ne_true c.ne.ensures c.if-ne.true)) refl
     (c.rejoin.ensures c.further-q.result
@@ -190,10 +177,11 @@ further-returns-then-ne t c =
 pub further-rest-requires-2 : goal.further-rest-requires-2
 further-rest-requires-2 t c =
     let (u, rested) = c.requires in
-    let fork = as_application rested c.kind_of.ensures c.if-kind_of-ne3.false in
+    let parts = forked rested c.node_at.ensures c.in-Application.is in
+    let fork = as_application rested c.node_at.ensures c.in-Application.is in
     let on = turned_about c.is_eager.ensures (ap not c.if-not-is_eager.false) in
     let zero = ne_false c.ne.ensures c.if-ne.false in
-    let resting = rest-after fork c.left_of-left.ensures c.right_of-right.ensures on
+    let resting = rest-after fork parts.left_is parts.right_is on
     (argument-run t (goal.at.further-rest-requires-2 t c).After-further-q) zero in
     (omega (arith, c.decreases), (_, _, _, resting-lent resting))
 
@@ -202,34 +190,35 @@ further-returns t c =
     let on = turned_about c.is_eager.ensures (ap not c.if-not-is_eager.false) in
     let zero = ne_false c.ne.ensures c.if-ne.false in
     λ u rested.
-    let fork = as_application rested c.kind_of.ensures c.if-kind_of-ne3.false in
-    let resting = rest-after fork c.left_of-left.ensures c.right_of-right.ensures on
+    let parts = forked rested c.node_at.ensures c.in-Application.is in
+    let fork = as_application rested c.node_at.ensures c.in-Application.is in
+    let resting = rest-after fork parts.left_is parts.right_is on
     (argument-run t (goal.at.further-returns t c).After-further-q) zero in
-    as_it_was rested c.kind_of.ensures c.if-kind_of-ne3.false
+    as_it_was rested c.node_at.ensures c.in-Application.is
     (c.rest-2.ensures _ _ _ (resting-lent resting))
 
 pub here-contract-c-requires : goal.here-contract-c-requires
 here-contract-c-requires t c =
-    contract_asks c.requires.3 c.kind_of.ensures c.if-kind_of-eq2.true
+    contract_asks c.requires.3 c.node_at.ensures c.in-Abstraction.is
 
 pub here-returns-then-eq : goal.here-returns-then-eq
 here-returns-then-eq t c =
     λ a l r here.
-    contracted-ran here c.kind_of.ensures c.if-kind_of-eq2.true c.contract-c.ensures
+    contracted-ran here c.node_at.ensures c.in-Abstraction.is c.contract-c.ensures
     (eq_true c.eq.ensures c.if-eq.true)
 
 pub here-rejoin-requires : goal.here-rejoin-requires
 here-rejoin-requires t c =
     let here = c.requires.3 in
-    let halts = contracted_halts here c.kind_of.ensures c.if-kind_of-eq2.true
+    let halts = contracted_halts here c.node_at.ensures c.in-Abstraction.is
     c.contract-c.ensures
     (eq_false c.eq.ensures c.if-eq.false) in
     (_, _, _, _, _, halts.parted.parts, here.at_whole)
 
-pub here-returns-then-kind_of-eq2 : goal.here-returns-then-kind_of-eq2
-here-returns-then-kind_of-eq2 t c =
+pub here-returns-in-Abstraction : goal.here-returns-in-Abstraction
+here-returns-in-Abstraction t c =
     λ a l r here.
-    let halts = contracted_halts here c.kind_of.ensures c.if-kind_of-eq2.true
+    let halts = contracted_halts here c.node_at.ensures c.in-Abstraction.is
     c.contract-c.ensures
     (eq_false c.eq.ensures c.if-eq.false) in
     rejoined halts here.at_whole (c.rejoin.ensures c.contract-c.result refl)
@@ -239,36 +228,26 @@ here-rest-requires t c =
     let here = c.requires.3 in
     let on = sym c.is_hybrid.ensures ∙ c.if-is_hybrid.true in (
       omega (arith, c.decreases),
-      (_, _, _, rest_asks here (no-abstraction here c.kind_of.ensures c.if-kind_of-eq2.false) on),
+      (_, _, _, rest_asks here (no-abstraction here c.node_at.ensures c.in_default.not-Abstraction) on),
     )
 
 pub here-returns-then-is_hybrid : goal.here-returns-then-is_hybrid
 here-returns-then-is_hybrid t c =
     let on = sym c.is_hybrid.ensures ∙ c.if-is_hybrid.true in
     λ a l r here.
-    c.rest.ensures _ _ _ (rest_asks here (no-abstraction here c.kind_of.ensures
-    c.if-kind_of-eq2.false) on)
-
-pub here-rejoin-requires-2 : goal.here-rejoin-requires-2
-here-rejoin-requires-2 t c =
-    let here = c.requires.3 in
-    (_, _, _, _, _, here.parted.parts, here.at_whole)
+    c.rest.ensures _ _ _ (rest_asks here (no-abstraction here c.node_at.ensures c.in_default.not-Abstraction) on)
 
 pub here-returns : goal.here-returns
 here-returns t c =
     let off = sym c.is_hybrid.ensures ∙ c.if-is_hybrid.false in
     λ a l r here.
-    let halts = plain_halts here (no-abstraction here c.kind_of.ensures c.if-kind_of-eq2.false) off in
+    let halts = plain_halts here (no-abstraction here c.node_at.ensures c.in_default.not-Abstraction) off in
     rejoined halts here.at_whole (c.rejoin-2.ensures (record { node = 0; stop = Rested }) refl)
 
 pub in_body-returns-then-not-enters_bodies : goal.in_body-returns-then-not-enters_bodies
 in_body-returns-then-not-enters_bodies t c =
     λ b ready.
     stays_shut ready (turned_about c.enters_bodies.ensures (ap not c.if-not-enters_bodies.true))
-
-pub in_body-overflow_add-depth : goal.in_body-overflow_add-depth
-in_body-overflow_add-depth t c =
-    omega (arith, (body_asks c.requires.1).deep)
 
 pub in_body-run_part-b-requires : goal.in_body-run_part-b-requires
 in_body-run_part-b-requires t c =
@@ -285,11 +264,6 @@ in_body-returns t c =
     let runs = c.run_part-b.ensures in
     body-again ready runs (turned_about c.enters_bodies.ensures (ap not c.if-not-enters_bodies.false))
     (c.rebind.ensures _ _ _ _ (rebind_asks ready runs) refl)
-
-pub in_parts-overflow_add-depth : goal.in_parts-overflow_add-depth
-in_parts-overflow_add-depth t c =
-    let (l, r, ready) = c.requires in
-    omega (arith, (left_asks (begun (order_of c.args.order) refl refl ready)).deep)
 
 pub in_parts-run_part-p-requires : goal.in_parts-run_part-p-requires
 in_parts-run_part-p-requires t c =
@@ -325,10 +299,6 @@ in_parts-returns-then-not-is_eager t c =
     λ l r ready.
     let here = spine-here ready (spine-run t (goal.at.in_parts-returns-then-not-is_eager t c).After-run_part-p) zero lazy in
     c.here.ensures _ _ _ (here-lent here)
-
-pub in_parts-overflow_add-depth-2 : goal.in_parts-overflow_add-depth-2
-in_parts-overflow_add-depth-2 t c =
-    omega (arith, (early_asks c.requires.2 (spine-run t (goal.at.in_parts-overflow_add-depth-2 t c).After-run_part-p)).deep)
 
 pub in_parts-run_part-q-requires : goal.in_parts-run_part-q-requires
 in_parts-run_part-q-requires t c =
@@ -368,10 +338,6 @@ in_parts-returns t c =
     let here = early_here ready (spine-run t (goal.at.in_parts-returns t c).After-run_part-p) (early-run t (goal.at.in_parts-returns t c).After-run_part-q) zero in
     c.here-2.ensures _ _ _ (here-lent here)
 
-pub rest-overflow_add-depth : goal.rest-overflow_add-depth
-rest-overflow_add-depth t c =
-    omega (arith, (function_asks c.requires.3).ready.deep)
-
 pub rest-further-p-requires : goal.rest-further-p-requires
 rest-further-p-requires t c =
     let asks = function_asks c.requires.3 in
@@ -407,10 +373,6 @@ rest-returns-then-not-is_late t c =
     (c.rejoin-then-not-is_late.ensures c.further-p.result
     (ne_false c.ne.ensures c.if-ne.false))
 
-pub rest-overflow_add-depth-2 : goal.rest-overflow_add-depth-2
-rest-overflow_add-depth-2 t c =
-    omega (arith, (late_asks c.requires.3 (left-run t (goal.at.rest-overflow_add-depth-2 t c).After-further-p)).deep)
-
 pub rest-run_part-q-requires : goal.rest-run_part-q-requires
 rest-run_part-q-requires t c =
     let asks = late_asks c.requires.3 (left-run t (goal.at.rest-run_part-q-requires t c).After-further-p) in
@@ -428,51 +390,40 @@ rest-returns t c =
     rejoined (late_halts resting (left-run t (goal.at.rest-returns t c).After-further-p) (late-run t (goal.at.rest-returns t c).After-run_part-q)) resting.at_whole
     (c.rejoin-2.ensures c.run_part-q.result refl)
 
-pub round-returns-then-normal_of-eq1 : goal.round-returns-then-normal_of-eq1
-round-returns-then-normal_of-eq1 t c =
+pub round-returns-then-is_normal : goal.round-returns-then-is_normal
+round-returns-then-is_normal t c =
     λ u ready.
-    stays_normal ready c.normal_of.ensures c.if-normal_of-eq1.true
+    stays_normal ready c.is_normal.ensures c.if-is_normal.true
 
-pub round-returns-then-kind-eq1 : goal.round-returns-then-kind-eq1
-round-returns-then-kind-eq1 t c =
+pub round-returns-in-Variable : goal.round-returns-in-Variable
+round-returns-in-Variable t c =
     λ u ready.
-    stays_variable ready c.kind_of-kind.ensures c.if-kind-eq1.true
+    stays_variable ready c.node_at.ensures c.in-Variable.is
 
 pub round-in_body-requires : goal.round-in_body-requires
 round-in_body-requires t c = (
   omega (arith, c.decreases),
-  abstraction_asks c.requires.1 c.kind_of-kind.ensures
-      c.if-kind-eq2.true,
+  abstraction_asks c.requires.1 c.node_at.ensures c.in-Abstraction.is,
 )
 
-pub round-returns-then-kind-eq2 : goal.round-returns-then-kind-eq2
-round-returns-then-kind-eq2 t c =
-    λ u ready. in_abstraction ready c.kind_of-kind.ensures c.if-kind-eq2.true c.in_body.ensures
+pub round-returns-in-Abstraction : goal.round-returns-in-Abstraction
+round-returns-in-Abstraction t c =
+    λ u ready. in_abstraction ready c.node_at.ensures c.in-Abstraction.is c.in_body.ensures
 
 pub round-in_parts-requires : goal.round-in_parts-requires
 round-in_parts-requires t c = (
   omega (arith, c.decreases),
-  application_asks c.requires.1 c.kind_of-kind.ensures
-      c.if-kind-eq1.false c.if-kind-eq2.false,
+  application_asks c.requires.1 c.node_at.ensures c.in-Application.is,
 )
 
-pub round-returns : goal.round-returns
-round-returns t c =
-    λ u ready. in_application ready c.kind_of-kind.ensures c.if-kind-eq1.false c.if-kind-eq2.false
+pub round-returns-in-Application : goal.round-returns-in-Application
+round-returns-in-Application t c =
+    λ u ready. in_application ready c.node_at.ensures c.in-Application.is
     c.in_parts.ensures
 
 pub run-loop-order-init : goal.run-loop-order-init
 run-loop-order-init t c =
     λ u ready. none_gone ready Rested
-
-pub run-round-q-requires : goal.run-round-q-requires
-run-round-q-requires t c =
-    let ready = c.requires.1 in
-    (omega (arith, c.decreases), (_, ready-again ready (c.loop-order.invariant _ ready)))
-
-pub run-shape_of-room-then-ne : goal.run-shape_of-room-then-ne
-run-shape_of-room-then-ne t c =
-    c.round-q.auto.room ∙ (c.loop-order.invariant _ c.requires.1).same.as_long
 
 pub run-returns-then-ne : goal.run-returns-then-ne
 run-returns-then-ne t c =
@@ -484,13 +435,6 @@ run-returns-then-ne t c =
       ended = ne_true c.ne.ensures c.if-ne.true;
     }
 
-pub run-loop-order-smaller : goal.run-loop-order-smaller
-run-loop-order-smaller t c =
-    let ready = c.requires.1 in
-    let gone = c.loop-order.invariant _ ready in
-    let ran = c.round-q.ensures gone.term (ready-again ready gone) in
-    omega (arith, ran.count, ran.turned (ne_false c.ne.ensures c.if-ne.false))
-
 pub run-loop-order-preserved : goal.run-loop-order-preserved
 run-loop-order-preserved t c =
     λ u ready.
@@ -501,11 +445,3 @@ run-loop-order-preserved t c =
 pub run_part-returns-then-at_rest : goal.run_part-returns-then-at_rest
 run_part-returns-then-at_rest t c =
     at_once (c.at_rest.ensures c.if-at_rest.true)
-
-pub run_part-run-requires : goal.run_part-run-requires
-run_part-run-requires t c =
-    (omega (arith, c.decreases), c.requires)
-
-pub run_part-returns : goal.run_part-returns
-run_part-returns t c =
-    c.run.ensures
