@@ -21,7 +21,7 @@ use Rattle.term.specs.declared.Refusal.{Refusal}
 use Rattle.words.specs.Places.{Clean, remains}
 use Rattle.words.specs.Judging.{Judges, is_fine, is_refused}
 use Rattle.words.specs.declared.Cursor.{Cursor}
-use Rattle.words.specs.declared.Judged.TheVariants as judged
+use Rattle.words.specs.declared.text.Text.{Text}
 use Rattle.words.specs.Ahead.{words_at}
 use Rattle.words.proofs.Ahead.{ahead-start}
 use Rattle.nodes.specs.Answers.{granted_told, granting}
@@ -47,10 +47,9 @@ start = record { at = 0; chars = 0 }
 -- THE WHOLE TEXT is one sequence, with nothing open
 pub ready-first : {n : Notation} {s : List ℕ} {most : ℕ} {out store : List ℕ} (stack : List (Option Binder))
     → length stack ≡ most_open
-    → Lent most out store → Clean s → Valid n s 0 → Ready n s stack 0 store most start 0
+    → Lent most out store → Valid n s 0 → Ready n s stack 0 store most start 0
 unfolding remains
-ready-first stack long lent clean valid = record {
-  clean = clean;
+ready-first stack long lent valid = record {
   placed = record { inside = omega arith; fewer = omega arith; counted = omega arith };
   valid = valid;
   opened = record { as_long = long; few = omega arith; inside = λ k lt. absurd (omega arith) };
@@ -120,19 +119,22 @@ characters-clean : {s : List ℕ} → Clean s → characters_of s ≡ given (cha
 unfolding characters_of
 characters-clean {s} clean = rw (le-leb (length s) most_text clean.short, clean.domain)
 
-module _ (n : Notation) (s : List ℕ) where
-  pub is-clean : Judges n s judged.Fine → Clean s
-  is-clean (is_fine clean e) = clean
+module _ (n : Notation) (s : List ℕ) {text : Text} where
+  is-clean : Judges n s (Ok text) → Clean s
+  is-clean (is_fine clean is e) = clean
 
-  words_there : Judges n s judged.Fine → (ws : List Word) × (words_at n s 0 ≡ given ws)
-  words_there (is_fine {ws} clean e) = (ws, ahead-start n s ∙ rw (characters-clean clean) at e)
+  is-text : Judges n s (Ok text) → text.bytes.now ≡ s
+  is-text (is_fine clean is e) = is
 
-  pub is-valid : Judges n s judged.Fine → Valid n s 0
+  words_there : Judges n s (Ok text) → (ws : List Word) × (words_at n s 0 ≡ given ws)
+  words_there (is_fine {ws} clean is e) = (ws, ahead-start n s ∙ rw (characters-clean clean) at e)
+
+  pub is-valid : Judges n s (Ok text) → Valid n text.bytes.now 0
   unfolding words_on
-  is-valid fine = record { valid = rw (words_there fine).1 }
+  is-valid fine = rw (is-text fine) (record { valid = rw (words_there fine).1 })
 
   -- then the rest is what was read
-  reads-text : (most : ℕ) → Judges n s judged.Fine
+  reads-text : (most : ℕ) → Judges n s (Ok text)
       → (go [] (words_on n s 0) (reading none) [] then within most) ≡ read_text n most s
   unfolding read_text go words_on
   reads-text most fine =
@@ -140,18 +142,19 @@ module _ (n : Notation) (s : List ℕ) where
       let same : words (next n) (characters s) ≡ given there.0 = sym (ahead-start n s) ∙ there.1 in
       rw (there.1, characters-clean (is-clean fine), same)
 
-  pub works-text : (most : ℕ) {out store after store' : List ℕ} {p : Parsed} → Judges n s judged.Fine
-      → Works (go [] (words_on n s 0) (reading none) [] then within most) out store p after store'
+  pub works-text : (most : ℕ) {out store after store' : List ℕ} {p : Parsed} → Judges n s (Ok text)
+      → Works (go [] (words_on n text.bytes.now 0) (reading none) [] then within most) out store p after store'
       → Works (read_text n most s) out store p after store'
-  works-text most fine works = rw (reads-text most fine) at works
-
+  works-text most fine works = rw (is-text fine, reads-text most fine) at works
   -- or the first of them is the answer
-  judged-refused : (most : ℕ) (e : Refusal) → Judges n s (judged.Refused e)
+
+module _ (n : Notation) (s : List ℕ) where
+  judged-refused : (most : ℕ) (e : Refusal) → Judges n s (Err e)
       → read_text n most s ≡ refused (refusal_of e)
   unfolding read_text
   judged-refused most e (is_refused is) = rw is
 
-  pub works-refused : (most : ℕ) (e : Refusal) (out store : List ℕ) → Judges n s (judged.Refused e)
+  pub works-refused : (most : ℕ) (e : Refusal) (out store : List ℕ) → Judges n s (Err e)
       → Works (read_text n most s) out store (Refused e) out store
   works-refused most e out store refuses =
       record { stores = refused-stores e out (judged-refused most e refuses); as_long = refl }

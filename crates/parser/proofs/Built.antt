@@ -108,10 +108,10 @@ module _ {xs : List ℕ} {most : ℕ} {read item : Built} where
 
   module _ (found : Found) (e : item.part ≡ part.Term found) where
     pub first_item : read.part ≡ part.Nothing
-        → Joins xs most read item xs (record { part = part.Term found; used = item.used })
+        → Joins xs most read item xs item
     first_item is = record {
       adds = adds_none xs item.used;
-      means = λ base st inner m m'. joins-first (rw is at m) (rw e at m');
+      means = λ base st inner m m'. rw e (joins-first (rw is at m) (rw e at m'));
     }
 
     pub after-empty : read.part ≡ part.Empty → Joins xs most read item xs (nothing_there item.used)

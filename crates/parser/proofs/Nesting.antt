@@ -15,7 +15,7 @@ use Rattle.calculus.specs.Grammar.{Waits}
 use Rattle.term.specs.Answers.{refusal_of}
 use Rattle.term.specs.declared.Refusal.{Refusal}
 use Rattle.term.specs.declared.Refusal.TheVariants.{TooHigh}
-use Rattle.words.specs.Places.{name_of}
+use Rattle.words.specs.Places.{Clean, name_of}
 use Rattle.words.specs.declared.Cursor.{Cursor}
 use Rattle.parser.specs.declared.tokens.Binder.{Binder}
 use Rattle.nodes.proofs.Keeping.{same_refl, same_then}
@@ -68,7 +68,6 @@ module _ {n : Notation} {s : List ℕ} {stack : List (Option Binder)} {count : �
     pub ready-opened : (opening : Option Binder) → Held s opening
         → Ready n s (set stack count opening) (count + 1) store most from base
     ready-opened opening inside = record {
-      clean = ready.clean;
       placed = ready.placed;
       valid = ready.valid;
       opened = opened_more s stack count opening in_stack ready.opened few inside;
@@ -115,26 +114,26 @@ module _ {n : Notation} {s : List ℕ} {stack : List (Option Binder)} {count : �
     few_there : length (opens s stack count) < most_open
     few_there = omega (arith, opens-length s stack count, few-open (rw is at groups.enters))
 
-    pub last-few : Ready n s stack count store most from base → inner.used ≤ 2 * most_text
-    last-few ready =
+    pub last-few : Clean s → Ready n s stack count store most from base → inner.used ≤ 2 * most_text
+    last-few clean ready =
         omega (
           arith,
           so_far.reaches.spent,
           ready.few,
           inside.reaches.spent,
           inside.reaches.step.placed.inside,
-          ready.clean.short,
+          clean.short,
         )
 
     pub went_on : (here.at < last.at) × (last.at ≤ length s)
     went_on =
         (omega (arith, met.moved, inside.reaches.step.forward), inside.reaches.step.placed.inside)
 
-    pub roomy_after : Ready n s stack count store most from base → Roomy store'' most inner.used
-    roomy_after ready = record {
+    pub roomy_after : Clean s → Ready n s stack count store most from base → Roomy store'' most inner.used
+    roomy_after clean ready = record {
       in_bounds = ready.roomy.in_bounds;
       room = omega (arith, ready.roomy.room, so_far.same.as_long, groups.same.as_long);
-      few = omega (arith, last-few ready);
+      few = omega (arith, last-few clean ready);
     }
 
     pub joinable-after : Joinable store'' most read inner

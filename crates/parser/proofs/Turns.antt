@@ -14,6 +14,7 @@ use Rattle.calculus.specs.Reading.{Notation}
 use Rattle.calculus.specs.Words.{Word}
 use Rattle.calculus.specs.Grammar.{Waits}
 use Rattle.term.specs.declared.Refusal.{Refusal}
+use Rattle.words.specs.Places.{Clean}
 use Rattle.words.specs.declared.Cursor.{Cursor}
 use Rattle.parser.specs.declared.tokens.Binder.{Binder}
 use Rattle.nodes.specs.Store.{Same}
@@ -154,14 +155,14 @@ module _ {n : Notation} {s : List ℕ} {stack : List (Option Binder)} {count : �
   refused_here {why} met = reads_so (to_a_refusal (stops why (rw same-open at met.goes)))
 
   -- WHAT OPENS asks what its sequence asked
-  module _ (ready : Ready n s stack count store most from base) where
+  module _ (clean : Clean s) (ready : Ready n s stack count store most from base) where
     pub few_used : read.used ≤ 2 * most_text
     few_used = omega (
       arith,
       so_far.reaches.spent,
       ready.few,
       so_far.reaches.step.placed.inside,
-      ready.clean.short,
+      clean.short,
     )
 
     pub roomy-here : Roomy store' most read.used
@@ -179,7 +180,6 @@ module _ {n : Notation} {s : List ℕ} {stack : List (Option Binder)} {count : �
 
     pub ready-inside : {after : Cursor} → Onward n s here after → Ready n s stack' count store' most after read.used
     ready-inside step = record {
-      clean = ready.clean;
       placed = step.placed;
       valid = step.valid;
       opened = opened-here;

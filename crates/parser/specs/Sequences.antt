@@ -11,7 +11,7 @@ use Rattle.calculus.specs.Grammar.{Waits}
 use Rattle.term.specs.Answers.{refusal_of}
 use Rattle.term.specs.declared.Refusal.{Refusal}
 use Rattle.term.specs.declared.Refusal.TheVariants.{TooHigh}
-use Rattle.words.specs.Places.{Clean, Placed}
+use Rattle.words.specs.Places.{Placed}
 use Rattle.words.specs.declared.Cursor.{Cursor}
 use Rattle.parser.specs.declared.tokens.Binder.{Binder}
 use Rattle.nodes.specs.Store.{Same}
@@ -25,7 +25,6 @@ use Rattle.parser.specs.declared.sequences.Went.{Went}
 -- a place in a text, what is open there, and the store
 pub record Ready (n : Notation) (s : List ℕ) (stack : List (Option Binder)) (count : ℕ) (store : List ℕ) (cap : ℕ) (from : Cursor) (base : ℕ) :
     Type 0 where
-  pub clean : Clean s
   pub placed : Placed s from
   pub valid : Valid n s from.at
   pub opened : Opened s stack count

@@ -8,14 +8,14 @@ use calculus::MOST_HEIGHT;
 use term::larger;
 
 // A term by its height, and by its node where it may still be within the bounds.
-#[derive(Clone, Copy)]
+#[derive(Clone, Copy, Debug, PartialEq, Eq)]
 pub(crate) struct Found {
     pub(crate) height: u64,
     pub(crate) node: usize,
 }
 
-// Nothing, a term, or something in it is empty.
-#[derive(Clone, Copy)]
+// Nothing yet, a term, or something in it is empty.
+#[derive(Clone, Copy, Debug, PartialEq, Eq)]
 pub(crate) enum Part {
     Nothing,
     Term(Found),
@@ -23,7 +23,7 @@ pub(crate) enum Part {
 }
 
 // What was read, and how many nodes up to its end; they are counted also where they are not made.
-#[derive(Clone, Copy)]
+#[derive(Clone, Copy, Debug, PartialEq, Eq)]
 pub(crate) struct Built {
     pub(crate) part: Part,
     pub(crate) used: usize,
@@ -56,13 +56,8 @@ fn abstraction(store: &mut [u64], cap: usize, body: Built) -> Built
     ensures { Encloses store.old cap body store.new result }
 {
     let used = body.used;
-    let held = body.part;
-    match held {
-        Part::Nothing => Built {
-            part: Part::Empty,
-            used,
-        },
-        Part::Empty => Built {
+    match body.part {
+        Part::Nothing | Part::Empty => Built {
             part: Part::Empty,
             used,
         },
@@ -120,23 +115,15 @@ pub(crate) fn joined(store: &mut [u64], cap: usize, read: Built, item: Built) ->
     ensures { Joins store.old cap read item store.new result }
 {
     let used = item.used;
-    let part = item.part;
-    let head = read.part;
-    match part {
-        Part::Nothing => Built {
-            part: Part::Empty,
-            used,
-        },
-        Part::Empty => Built {
-            part: Part::Empty,
-            used,
-        },
-        Part::Term(right) => match head {
-            Part::Nothing => Built { part, used },
-            Part::Empty => Built {
-                part: Part::Empty,
-                used,
-            },
+    let empty = Built {
+        part: Part::Empty,
+        used,
+    };
+    match item.part {
+        Part::Nothing | Part::Empty => empty,
+        Part::Term(right) => match read.part {
+            Part::Nothing => item,
+            Part::Empty => empty,
             Part::Term(left) => application(store, cap, used, left, right),
         },
     }

@@ -12,7 +12,6 @@ ghost use Rattle.calculus.specs.Judging.{within};
 ghost use Rattle.calculus.specs.Reading.{read_text};
 ghost use Rattle.calculus.specs.Outcomes.{parse_of};
 ghost use Rattle.term.specs.Notations.{notation_of};
-ghost use Rattle.words.specs.Places.{Clean};
 ghost use Rattle.parser.specs.Answers.{parsed_told};
 ghost use Rattle.parser.specs.States.{reading, go};
 ghost use Rattle.parser.specs.Tokens.{words_on, Valid};
@@ -24,7 +23,8 @@ use calculus::{MOST_HEIGHT, MOST_OPEN, ROOM_PER_NODE};
 use nodes::lending::{Granted, grant};
 use sequences::sequence;
 use term::{Notation, Refusal};
-use words::{Cursor, Judged};
+use words::Cursor;
+use words::text::Text;
 
 // The bytes that the term takes in the output, or why it has none.
 #[derive(Clone, Copy)]
@@ -39,10 +39,8 @@ fn save(store: &[u64], cap: usize, read: Built, out: &mut [u8]) -> Parsed
     requires { Storable store.now cap read out.old }
     ensures { Saves store.now cap read out.old result out.new }
 {
-    let part = read.part;
-    match part {
-        Part::Nothing => Parsed::Refused(Refusal::EmptyExpression),
-        Part::Empty => Parsed::Refused(Refusal::EmptyExpression),
+    match read.part {
+        Part::Nothing | Part::Empty => Parsed::Refused(Refusal::EmptyExpression),
         Part::Term(whole) => {
             if MOST_HEIGHT < whole.height {
                 return Parsed::Refused(Refusal::TooHigh);
@@ -56,9 +54,9 @@ fn save(store: &[u64], cap: usize, read: Built, out: &mut [u8]) -> Parsed
 }
 
 // The walk's 6 or 7, then 8, 7 and 9, of a text whose words are valid.
-fn build(notation: Notation, cap: usize, text: &[u8], out: &mut [u8], store: &mut [u64]) -> Parsed
-    requires { Lent cap out.old store.old × Clean text.now × Valid (notation_of notation) text.now 0 }
-    ensures { Works (go [] (words_on (notation_of notation) text.now 0) (reading none) []
+fn build(notation: Notation, cap: usize, text: Text, out: &mut [u8], store: &mut [u64]) -> Parsed
+    requires { Lent cap out.old store.old × Valid (notation_of notation) text.bytes.now 0 }
+    ensures { Works (go [] (words_on (notation_of notation) text.entry.bytes.now 0) (reading none) []
         then within cap) out.old store.old result out.new store.new }
 {
     let mut stack = [None; MOST_OPEN];
@@ -76,8 +74,8 @@ fn read(notation: Notation, cap: usize, text: &[u8], out: &mut [u8], store: &mut
         out.old store.old result out.new store.new }
 {
     match words::judge(notation, text) {
-        Judged::Refused(why) => Parsed::Refused(why),
-        Judged::Fine => build(notation, cap, text, out, store),
+        Err(why) => Parsed::Refused(why),
+        Ok(text) => build(notation, cap, text, out, store),
     }
 }
 

@@ -8,9 +8,10 @@ use crate::tokens::{Binder, Token, token_at};
 use calculus::MOST_OPEN;
 use term::{Notation, Refusal};
 use words::Cursor;
+use words::text::Text;
 
 // What was read up to a place, and whether a `)` closed it there.
-#[derive(Clone, Copy)]
+#[derive(Clone, Copy, Debug, PartialEq, Eq)]
 pub(crate) struct Went {
     pub(crate) read: Built,
     pub(crate) here: Cursor,
@@ -20,7 +21,7 @@ pub(crate) struct Went {
 // The items up to a `)`, which is passed, or the end. The body of an abstraction is the rest of its sequence.
 #[cycle(group_sequence)]
 pub(crate) fn sequence(
-    text: &[u8],
+    text: Text,
     notation: Notation,
     stack: &mut [Option<Binder>],
     count: usize,
@@ -29,8 +30,8 @@ pub(crate) fn sequence(
     from: Cursor,
     base: usize,
 ) -> Result<Went, Refusal>
-    requires { Ready (notation_of notation) text.now stack.old count store.old cap from base }
-    ensures { Reads (notation_of notation) text.now stack.old count
+    requires { Ready (notation_of notation) text.bytes.now stack.old count store.old cap from base }
+    ensures { Reads (notation_of notation) text.entry.bytes.now stack.old count
         store.old cap from base result stack.new store.new }
 {
     let mut here = from;
@@ -81,7 +82,7 @@ pub(crate) fn sequence(
 #[cycle(group_sequence)]
 #[tactic(auto, using(crate::proofs::Nesting::refusing))]
 fn group(
-    text: &[u8],
+    text: Text,
     notation: Notation,
     stack: &mut [Option<Binder>],
     count: usize,
@@ -91,9 +92,9 @@ fn group(
     from: Cursor,
     base: usize,
 ) -> Result<Went, Refusal>
-    requires { Ready (notation_of notation) text.now stack.old count store.old cap from base
-        × Held text.now opening }
-    ensures { Groups (notation_of notation) text.now stack.old count opening
+    requires { Ready (notation_of notation) text.bytes.now stack.old count store.old cap from base
+        × Held text.bytes.now opening }
+    ensures { Groups (notation_of notation) text.entry.bytes.now stack.old count opening
         store.old cap from base result stack.new store.new }
 {
     if MOST_OPEN <= count {

@@ -3,15 +3,16 @@ ghost use Rattle.std.specs.Prelude.{◌≡◌, ◌≤◌};
 ghost use Rattle.calculus.specs.Bounds.{most_text};
 ghost use Rattle.calculus.specs.Walk.{resolved};
 ghost use Rattle.term.specs.Notations.{notation_of};
-ghost use Rattle.words.specs.Places.{Clean, Placed, Inside, name_of};
+ghost use Rattle.words.specs.Places.{Placed, Inside, name_of};
 ghost use Rattle.parser.specs.Opens.{opens, Opened, found, binder_of, name_at};
 ghost use Rattle.parser.specs.Tokens.{Valid, Meets};
 
 use term::{Notation, Refusal};
-use words::{Cursor, Name, Word, same_name};
+use words::text::Text;
+use words::{Cursor, Name, Word};
 
-// A binder by the place of its name. No offset in a text needs more bits, and the stack is cleared for each text.
-#[derive(Clone, Copy)]
+// A binder by the place of its name, in half of what a public Name takes: the stack is cleared for each text.
+#[derive(Clone, Copy, Debug, PartialEq, Eq)]
 pub(crate) struct Binder {
     from: u32,
     to: u32,
@@ -39,15 +40,15 @@ impl Binder {
 }
 
 // The index that a name has among what is open, from the innermost binder out.
-fn resolve(text: &[u8], stack: &[Option<Binder>], count: usize, name: Name) -> Option<u64>
-    requires { Clean text.now × Inside text.now name × Opened text.now stack.now count }
-    ensures { found result ≡ resolved (name_of text.now name) 1
-        (opens text.now stack.now count) }
+fn resolve(text: Text, stack: &[Option<Binder>], count: usize, name: Name) -> Option<u64>
+    requires { Inside text.bytes.now name × Opened text.bytes.now stack.now count }
+    ensures { found result ≡ resolved (name_of text.entry.bytes.now name) 1
+        (opens text.entry.bytes.now stack.now count) }
 {
     let mut index = 1;
     for open in stack[..count].iter().rev() {
         if let Some(binder) = *open {
-            if same_name(text, name, binder.name()) {
+            if text.same_name(name, binder.name()) {
                 return Some(index);
             }
             index += 1;
@@ -57,7 +58,7 @@ fn resolve(text: &[u8], stack: &[Option<Binder>], count: usize, name: Name) -> O
 }
 
 // What opens is a `(`, or a binder by its name.
-#[derive(Clone, Copy)]
+#[derive(Clone, Copy, Debug, PartialEq, Eq)]
 pub(crate) enum Token {
     Index(u64),
     Open(Option<Binder>),
@@ -67,16 +68,16 @@ pub(crate) enum Token {
 
 // A token and the place after it.
 pub(crate) fn token_at(
-    text: &[u8],
+    text: Text,
     notation: Notation,
     stack: &[Option<Binder>],
     count: usize,
     here: Cursor,
 ) -> Result<(Token, Cursor), Refusal>
-    requires { Clean text.now × Placed text.now here × Valid (notation_of notation) text.now here.at
-        × Opened text.now stack.now count }
-    ensures { Meets (notation_of notation) text.now
-        (opens text.now stack.now count) here result }
+    requires { Placed text.bytes.now here × Valid (notation_of notation) text.bytes.now here.at
+        × Opened text.bytes.now stack.now count }
+    ensures { Meets (notation_of notation) text.entry.bytes.now
+        (opens text.entry.bytes.now stack.now count) here result }
 {
     let step = here.next(text, notation);
     let next = step.next;

@@ -9,12 +9,14 @@ use Rattle.calculus.specs.Bounds.{greatest_number}
 use Rattle.calculus.specs.Words.{invalid}
 use Rattle.calculus.specs.DeBruijn.{first_word, bracketed, glyph, word_at}
 use Rattle.words.specs.Places.{Clean, Placed, remains}
-use Rattle.words.specs.Digits.{hex_value}
+use Rattle.std.specs.Prelude.{Some, None}
+use Rattle.words.specs.Digits.{hex_digit}
 use Rattle.words.specs.declared.Cursor.{Cursor}
 use Rattle.words.specs.declared.Word.TheVariants.{Number, Invalid}
 use Rattle.words.proofs.Remaining.{remains_end}
 use Rattle.words.proofs.Passing.{Stands, Past, past-further, first_char}
 use Rattle.words.proofs.Telling.{Moves, stops, goes, wrong_here}
+use Rattle.words.proofs.Tables.{digit_few}
 use Rattle.words.proofs.DeBruijnWords.{inside-digit, inside-over, inside_wrong, inside-first}
 
 -- brackets that open at a place, read up to another with an index so far
@@ -40,20 +42,21 @@ module _ {s : List ℕ} {from here : Cursor} (stands : Stands s from) (past : Pa
       → Moves s from (first_word (remains s from.at)) (record { word = Invalid; next = from })
   opened-last h = stops stands.1 (omega arith) (opened ∙ inside-ends s _ none here.at h)
 
-  module _ (h : here.at < length s) {d : ℕ} (e : d ≡ hex_value (get_or s here.at 0)) where
+  module _ (h : here.at < length s) where
     second : Stands s here
     second = (stands.0, past.1, h)
 
-    pub opened_wrong : 15 < d
+    pub opened_wrong : hex_digit (get_or s here.at 0) ≡ None
         → Moves s from (first_word (remains s from.at)) (record { word = Invalid; next = here })
-    opened_wrong large =
+    opened_wrong is =
         let o : List ℕ = remains s from.at in
-        let wrong = inside-first _ (stands.0.only_bytes here.at) e o large in
+        let wrong = inside-first _ (stands.0.only_bytes here.at) o is in
         stops past.1 (omega (arith, past-further stands past)) (opened ∙ wrong_here (bracketed o none) second wrong)
 
-    pub so_far_starts : {r : Cursor} → Past s here r → d < 16 → SoFar s from r d
-    so_far_starts further small =
+    pub so_far_starts : {d : ℕ} → hex_digit (get_or s here.at 0) ≡ Some d → {r : Cursor} → Past s here r → SoFar s from r d
+    so_far_starts is further =
         let o : List ℕ = remains s from.at in
+        let small = digit_few _ (stands.0.only_bytes here.at) is in
         record {
           clean = stands.0;
           start = stands.1;
@@ -62,7 +65,7 @@ module _ {s : List ℕ} {from here : Cursor} (stands : Stands s from) (past : Pa
           read =
               opened
               ∙ ap (bracketed o none) (first_char second further)
-              ∙ inside-digit _ (stands.0.only_bytes here.at) e o none small (omega arith) _;
+              ∙ inside-digit _ (stands.0.only_bytes here.at) o none is (omega arith) _;
         }
 
 -- FURTHER ON
@@ -82,24 +85,24 @@ module _ {s : List ℕ} {from here : Cursor} {i : ℕ} (k : SoFar s from here i)
         goes past.1 (omega (arith, k.forward, past-further still_stands past)) (Number i) refl tt
         (k.read ∙ rw (first_char still_stands past, e))
 
-    module _ {d : ℕ} (e : d ≡ hex_value (get_or s here.at 0)) where
-      pub so_far_wrong : 15 < d → (get_or s here.at 0 ≡ 93 → ⊥)
+    pub so_far_wrong : hex_digit (get_or s here.at 0) ≡ None → (get_or s here.at 0 ≡ 93 → ⊥)
+        → Moves s from (first_word (remains s from.at)) (record { word = Invalid; next = here })
+    so_far_wrong is n =
+        let o : List ℕ = remains s from.at in
+        let wrong = inside_wrong _ (k.clean.only_bytes here.at) o (some i) is n in
+        stops k.placed (omega (arith, k.forward)) (k.read ∙ wrong_here (bracketed o (some i)) still_stands wrong)
+
+    module _ {d : ℕ} (is : hex_digit (get_or s here.at 0) ≡ Some d) where
+      pub so_far_over : greatest_number < i * 16 + d
           → Moves s from (first_word (remains s from.at)) (record { word = Invalid; next = here })
-      so_far_wrong large n =
+      so_far_over over =
           let o : List ℕ = remains s from.at in
-          let wrong = inside_wrong _ (k.clean.only_bytes here.at) e o (some i) large n in
+          let wrong = inside-over _ (k.clean.only_bytes here.at) o (some i) is over in
           stops k.placed (omega (arith, k.forward)) (k.read ∙ wrong_here (bracketed o (some i)) still_stands wrong)
 
-      pub so_far_over : d < 16 → greatest_number < i * 16 + d
-          → Moves s from (first_word (remains s from.at)) (record { word = Invalid; next = here })
-      so_far_over small over =
-          let o : List ℕ = remains s from.at in
-          let wrong = inside-over _ (k.clean.only_bytes here.at) e o (some i) small over in
-          stops k.placed (omega (arith, k.forward)) (k.read ∙ wrong_here (bracketed o (some i)) still_stands wrong)
-
-      pub so_far_goes_on : {r : Cursor} → Past s here r → d < 16 → i * 16 + d ≤ greatest_number
+      pub so_far_goes_on : {r : Cursor} → Past s here r → i * 16 + d ≤ greatest_number
           → SoFar s from r (i * 16 + d)
-      so_far_goes_on past small fits =
+      so_far_goes_on past fits =
           let o : List ℕ = remains s from.at in
           record {
             clean = k.clean;
@@ -109,5 +112,5 @@ module _ {s : List ℕ} {from here : Cursor} {i : ℕ} (k : SoFar s from here i)
             read =
                 k.read
                 ∙ ap (bracketed o (some i)) (first_char still_stands past)
-                ∙ inside-digit _ (k.clean.only_bytes here.at) e o (some i) small fits _;
+                ∙ inside-digit _ (k.clean.only_bytes here.at) o (some i) is fits _;
           }

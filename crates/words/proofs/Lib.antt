@@ -1,7 +1,7 @@
 -- Laws of places, runs and words that the proofs use.
 pub mod Remaining
 pub mod Ahead
-mod Tables
+pub mod Tables
 mod Passing
 mod Telling
 mod DeBruijnWords

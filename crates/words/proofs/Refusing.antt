@@ -1,4 +1,4 @@
--- What the length of a text and the search for a character outside the domain tell of 3, 4 and 5.
+-- What the length of a text and the search for a character outside the domain tell of what is refused first.
 use Prim.Native.Nat.{ℕ, ◌≤◌, ◌<◌}
 use mathlib.Core.Path.{◌≡◌}
 use mathlib.Core.List.{List}
@@ -12,12 +12,11 @@ use Rattle.calculus.specs.Reading.{Notation, unless_outside, characters_of}
 use Rattle.term.specs.declared.Refusal.TheVariants.{TextTooLong, OutsideDomain}
 use Rattle.words.specs.Places.{Clean}
 use Rattle.words.specs.Judging.{Scans, is_inside, is_outside, Worded, Judges, is_refused}
-use Rattle.words.specs.declared.Judged.{Judged}
-use Rattle.words.specs.declared.Judged.TheVariants.{Refused}
-use Rattle.words.specs.declared.judging.Domain.{Domain}
-use Rattle.words.specs.declared.judging.Domain.TheVariants as domain
+use Rattle.std.specs.Prelude.{Option, Some, None, Result, Err}
+use Rattle.term.specs.declared.Refusal.{Refusal}
+use Rattle.words.specs.declared.text.Text.{Text}
 
--- the answer of 3 and 4
+-- the answer on length and domain
 module _ (s : List ℕ) where
   long-answer : most_text < length s → characters_of s ≡ refused text_too_long
   unfolding characters_of
@@ -29,27 +28,27 @@ module _ (s : List ℕ) where
   short-answer short = rw (le-leb (length s) most_text short)
 
 -- what a scan tells
-scanned_clean : {s : List ℕ} → Scans s domain.Inside → Clean s
+scanned_clean : {s : List ℕ} → Scans s None → Clean s
 scanned_clean (is_inside clean) = clean
 
-scanned_outside : {s : List ℕ} {offset : ℕ} → Scans s (domain.Outside offset)
+scanned_outside : {s : List ℕ} {offset : ℕ} → Scans s (Some offset)
     → first_outside 0 (characters s) ≡ some offset
 scanned_outside (is_outside e) = e
 
-pub inside-clean : {s : List ℕ} {d : Domain} → Scans s d → d ≡ domain.Inside → Clean s
+pub inside-clean : {s : List ℕ} {d : Option ℕ} → Scans s d → d ≡ None → Clean s
 inside-clean scans e = scanned_clean (rw e at scans)
 
--- 3, 4, AND 5
+-- LENGTH, DOMAIN, AND WORDS
 module _ (n : Notation) (s : List ℕ) where
-  pub too_long : most_text < length s → Judges n s (Refused TextTooLong)
+  pub too_long : most_text < length s → Judges n s (Err TextTooLong)
   too_long long = is_refused {e = TextTooLong} (rw (long-answer s long))
 
-  pub outside : {d : Domain} {offset : ℕ} → length s ≤ most_text → Scans s d → d ≡ domain.Outside offset
-      → Judges n s (Refused (OutsideDomain offset))
+  pub outside : {d : Option ℕ} {offset : ℕ} → length s ≤ most_text → Scans s d → d ≡ Some offset
+      → Judges n s (Err (OutsideDomain offset))
   outside {offset = offset} short scans e =
       is_refused {e = OutsideDomain offset} (rw (short-answer s short, scanned_outside (rw e at scans)))
 
-  pub worded : {j : Judged} → Clean s → Worded n s j → Judges n s j
+  pub worded : {j : Result Text Refusal} → Clean s → Worded n s j → Judges n s j
   worded clean w = rw (short-answer s clean.short, clean.domain) w
 
 -- what the judge is proved by

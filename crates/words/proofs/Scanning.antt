@@ -17,8 +17,9 @@ use Rattle.words.specs.declared.Cursor.{Cursor}
 use Rattle.words.specs.declared.Step.{Step}
 use Rattle.words.specs.declared.Word.{Word}
 use Rattle.words.specs.declared.Word.TheVariants.{End, Binder, Left, Right, Number, Named, Invalid}
-use Rattle.words.specs.declared.Judged.{Judged}
-use Rattle.words.specs.declared.Judged.TheVariants.{Fine, Refused}
+use Rattle.std.specs.Prelude.{Ok, Err}
+use Rattle.term.specs.declared.Refusal.{Refusal}
+use Rattle.words.specs.declared.text.Text.{Text}
 use Rattle.words.specs.Ahead.{words_at}
 use Rattle.words.proofs.Ahead.{ahead-start, ahead-word, ahead_end, ahead-invalid, invalid-inside}
 
@@ -76,9 +77,9 @@ module _ {n : Notation} {s : List ℕ} {here : Cursor} {r : Step} (reached : Rea
   by_case : (x : Word) → r.word ≡ x → next n (remains s here.at) ≡ told s x (remains s r.next.at)
   by_case x e = tells.tells ∙ ap (λ x. told s x (remains s r.next.at)) e
 
-  pub reached_end : Clean s → r.word ≡ End → Worded n s Fine
-  reached_end clean e =
-      is_fine clean
+  pub reached_end : {text : Text} → Clean s → text.bytes.now ≡ s → r.word ≡ End → Worded n s (Ok text)
+  reached_end clean is e =
+      is_fine clean is
       (reached.whole
       ∙ ap (λ x. x then (λ ws. given (reached.after_read ws))) (ahead_end n s here.at (by_case End e)))
 
@@ -87,8 +88,8 @@ module _ {n : Notation} {s : List ℕ} {here : Cursor} {r : Step} (reached : Rea
     pub next-inside : r.next.at < length s
     next-inside = invalid-inside n s here.at r.next.at (by_case Invalid invalid)
 
-    pub reached-invalid : {j : Judged} → Clean s
-        → j ≡ Refused (InvalidCharacter r.next.chars (char_of (get_or s r.next.at 0))) → Worded n s j
+    pub reached-invalid : {why : Refusal} → Clean s
+        → why ≡ InvalidCharacter r.next.chars (char_of (get_or s r.next.at 0)) → Worded n s (Err why)
     reached-invalid clean e =
         let refusal = ahead-invalid n s here.at r.next clean tells.placed (by_case Invalid invalid) in
         rw e

@@ -1,14 +1,16 @@
 -- What each byte is as a character, by tables of all 256.
 use Prim.Native.Nat.{ℕ, ◌<◌}
-use mathlib.Core.Path.{◌≡◌, refl}
-use mathlib.Core.Bool.{◌||◌, not, cond}
+use mathlib.Core.Path.{◌≡◌, refl, sym, ap, ◌∙◌}
+use mathlib.Core.Bool.{Bool, true, ◌||◌, not, cond}
+use Rattle.std.proofs.lemmas.Bool.{ltb-true}
 use lib.Dec.{ltb, eqb}
 use Rattle.calculus.specs.Characters.{white}
 use Rattle.calculus.specs.Classic as classic
 use Rattle.calculus.specs.DeBruijn as de_bruijn
 use Rattle.calculus.proofs.Tests.{table, by_table}
 use Rattle.words.specs.Places.{char_of}
-use Rattle.words.specs.Digits.{hex_value}
+use Rattle.std.specs.Prelude.{Option, Some, None}
+use Rattle.words.specs.Digits.{hex_digit}
 
 -- WHAT A RUN MAY HOLD
 pub white_char : (b : ℕ) → b < 256 → white (char_of b) ≡ white b
@@ -55,11 +57,27 @@ other_glyph b =
     (cond (eqb b 40) de_bruijn.left
     (cond (eqb b 41) de_bruijn.right (cond (eqb b 91) de_bruijn.bracket de_bruijn.strange))))
 
+abbrev pub digit_or : Option ℕ → de_bruijn.Glyph → de_bruijn.Glyph
+digit_or (Some d) other = de_bruijn.digit d
+digit_or None other = other
+
 abbrev pub de_bruijn-glyph : ℕ → de_bruijn.Glyph
-de_bruijn-glyph b =
-    cond (ltb (hex_value b) 16) (de_bruijn.digit (hex_value b))
-    (cond (eqb b 93) de_bruijn.end_bracket (other_glyph b))
+de_bruijn-glyph b = digit_or (hex_digit b) (cond (eqb b 93) de_bruijn.end_bracket (other_glyph b))
 
 pub glyph-de_bruijn : (b : ℕ) → b < 256 → de_bruijn.glyph (char_of b) ≡ de_bruijn-glyph b
-unfolding table de_bruijn.glyph hex_value
+unfolding table de_bruijn.glyph hex_digit
 glyph-de_bruijn b h = by_table (λ b. de_bruijn.glyph (char_of b)) de_bruijn-glyph 256 refl b h
+
+-- A DIGIT is less than 16
+abbrev few : Option ℕ → Bool
+few (Some d) = ltb d 16
+few None = true
+
+pub digit_few : (b : ℕ) → b < 256 → {d : ℕ} → hex_digit b ≡ Some d → d < 16
+unfolding table hex_digit
+digit_few b h {d} is = ltb-true d 16 (sym (ap few is) ∙ by_table (λ b. few (hex_digit b)) (λ b. true) 256 refl b h)
+
+-- what is none of the values is none
+pub only_none : {A : Type 0} (o : Option A) → ((x : A) → o ≡ Some x → ⊥) → o ≡ None
+only_none None h = refl
+only_none (Some x) h = absurd (h x refl)

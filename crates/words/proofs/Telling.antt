@@ -28,6 +28,16 @@ Moves s from expected r = Tells s from expected r × (from.at + taken r.word ≤
 invalid-no_end : Invalid ≡ End → ⊥
 invalid-no_end is = let never : ◌≡◌ {A = ℕ} 0 1 = cc is in omega arith
 
+-- a word that is neither of the two others takes a byte
+pub word_taken : (w : Word) → (w ≡ End → ⊥) → (w ≡ Invalid → ⊥) → taken w ≡ 1
+word_taken End e i = absurd (e refl)
+word_taken (Binder x) e i = refl
+word_taken Left e i = refl
+word_taken Right e i = refl
+word_taken (Number n) e i = refl
+word_taken (Named x) e i = refl
+word_taken Invalid e i = absurd (i refl)
+
 pub one_taken : (w : Word) → taken w ≤ 1
 one_taken End = omega arith
 one_taken (Binder x) = omega arith

@@ -5,7 +5,7 @@ ghost use Rattle.calculus.specs.Numbers.{between};
 ghost use Rattle.calculus.specs.Classic as classic;
 ghost use Rattle.words.specs.Places.{char_of};
 ghost use Rattle.words.specs.Runs.{test_of};
-ghost use Rattle.words.specs.Digits.{hex_value};
+ghost use Rattle.words.specs.Digits.{hex_digit};
 
 // The two bytes of the lambda sign.
 pub(crate) const SIGN_FIRST: u8 = 0xCE;
@@ -27,7 +27,7 @@ pub(crate) fn code_of(b: u8) -> u64
 }
 
 // What a run of characters may hold: white space, what a binder's name holds, what a name elsewhere holds.
-#[derive(Clone, Copy)]
+#[derive(Clone, Copy, Debug, PartialEq, Eq)]
 pub(crate) enum Run {
     White,
     Bound,
@@ -79,27 +79,14 @@ pub(crate) fn may_hold(run: Run, b: u8) -> bool
     }
 }
 
-// The value of a hex digit, and 16 for any other byte.
-pub(crate) fn hex_value(b: u8) -> u64
-    ensures { result ≡ hex_value b }
+// The value of a hex digit.
+pub(crate) fn hex_digit(b: u8) -> Option<u64>
+    ensures { result ≡ hex_digit b }
 {
-    if b < 48 {
-        return 16;
+    match b {
+        b'0'..=b'9' => Some(u64::from(b - 48)),
+        b'A'..=b'F' => Some(u64::from(b - 55)),
+        b'a'..=b'f' => Some(u64::from(b - 87)),
+        _ => None,
     }
-    if b <= 57 {
-        return (b - 48) as u64;
-    }
-    if b < 65 {
-        return 16;
-    }
-    if b <= 70 {
-        return (b - 55) as u64;
-    }
-    if b < 97 {
-        return 16;
-    }
-    if b <= 102 {
-        return (b - 87) as u64;
-    }
-    16
 }

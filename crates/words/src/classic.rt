@@ -1,34 +1,35 @@
 // The next word in classic notation.
 ghost use Rattle.std.specs.Prelude.{◌+◌, ◌≤◌, ◌<◌};
 ghost use Rattle.calculus.specs.Classic.{binder_at, first_word};
-ghost use Rattle.words.specs.Places.{Clean, Placed, remains};
+ghost use Rattle.words.specs.Places.{Placed, remains};
 ghost use Rattle.words.specs.Steps.{taken, Last, Tells};
 
 use crate::bytes::{Run, SIGN_FIRST, is_figure, is_letter};
+use crate::text::Text;
 use crate::{Cursor, Name, Step, Word, unnamed};
 
 impl Cursor {
     // The binder whose lambda was passed.
-    fn binder(self, text: &[u8]) -> Step
-        requires { Clean text.now × Placed text.now self × (0 < self.at) }
-        ensures { Tells text.now self (binder_at (remains text.now self.at)) result }
+    fn binder(self, text: Text) -> Step
+        requires { Placed text.bytes.now self × (0 < self.at) }
+        ensures { Tells text.entry.bytes.now self (binder_at (remains text.entry.bytes.now self.at)) result }
     {
         let from = self.at;
-        if text.len() <= from {
+        if text.bytes.len() <= from {
             let word = Word::Binder(unnamed(from));
             return Step { word, next: self };
         }
-        if is_figure(text[from]) {
+        if is_figure(text.bytes[from]) {
             let word = Word::Invalid;
             return Step { word, next: self };
         }
         let end = self.over(text, Run::Bound);
         let to = end.at;
-        if text.len() <= to {
+        if text.bytes.len() <= to {
             let word = Word::Binder(Name { from, to });
             return Step { word, next: end };
         }
-        if text[to] == b'.' {
+        if text.bytes[to] == b'.' {
             let word = Word::Binder(Name { from, to });
             return Step {
                 word,
@@ -40,17 +41,17 @@ impl Cursor {
     }
 
     // The word that begins here, white space being passed, in classic notation.
-    pub(crate) fn first_classic(self, text: &[u8]) -> Step
-        requires { Clean text.now × Placed text.now self }
-        ensures { Tells text.now self (first_word (remains text.now self.at)) result
-            × (self.at + taken result.word ≤ result.next.at) × Last text.now result }
+    pub(crate) fn first_classic(self, text: Text) -> Step
+        requires { Placed text.bytes.now self }
+        ensures { Tells text.entry.bytes.now self (first_word (remains text.entry.bytes.now self.at)) result
+            × (self.at + taken result.word ≤ result.next.at) × Last text.entry.bytes.now result }
     {
         let at = self.at;
-        if text.len() <= at {
+        if text.bytes.len() <= at {
             let word = Word::End;
             return Step { word, next: self };
         }
-        let b = text[at];
+        let b = text.bytes[at];
         let next = self.past(text);
         if b == b'\\' {
             return next.binder(text);

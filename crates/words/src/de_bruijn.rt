@@ -1,10 +1,11 @@
 // The next word in De Bruijn's notation.
 ghost use Rattle.std.specs.Prelude.{◌≡◌, ◌+◌, ◌≤◌, ◌<◌, length, get_or};
 ghost use Rattle.calculus.specs.DeBruijn.{first_word};
-ghost use Rattle.words.specs.Places.{Clean, Placed, remains};
+ghost use Rattle.words.specs.Places.{Placed, remains};
 ghost use Rattle.words.specs.Steps.{taken, Last, Tells};
 
-use crate::bytes::{SIGN_FIRST, hex_value};
+use crate::bytes::{SIGN_FIRST, hex_digit};
+use crate::text::Text;
 use crate::{Cursor, Step, Word, unnamed};
 
 // An index above it has no room for a digit more: 2^60 - 1.
@@ -12,27 +13,27 @@ const MOST_TO_LENGTHEN: u64 = 1152921504606846975;
 
 impl Cursor {
     // The index in the brackets that open here.
-    fn bracketed(self, text: &[u8]) -> Step
-        requires clean { Clean text.now × Placed text.now self × (self.at < length text.now) }
-        requires at_value { get_or text.now self.at 0 ≡ 91 }
-        ensures { Tells text.now self (first_word (remains text.now self.at)) result
-            × (self.at + taken result.word ≤ result.next.at) × Last text.now result }
+    fn bracketed(self, text: Text) -> Step
+        requires placed { Placed text.bytes.now self × (self.at < length text.bytes.now) }
+        requires at_value { get_or text.bytes.now self.at 0 ≡ 91 }
+        ensures { Tells text.entry.bytes.now self (first_word (remains text.entry.bytes.now self.at)) result
+            × (self.at + taken result.word ≤ result.next.at) × Last text.entry.bytes.now result }
     {
         let mut here = self.past(text);
         let first = here.at;
-        if text.len() <= first {
+        if text.bytes.len() <= first {
             let word = Word::Invalid;
             return Step { word, next: self };
         }
-        let mut index = hex_value(text[first]);
-        if 15 < index {
+        let Some(value) = hex_digit(text.bytes[first]) else {
             let word = Word::Invalid;
             return Step { word, next: here };
-        }
+        };
+        let mut index = value;
         here = here.past(text);
-        while here.at < text.len() {
+        while here.at < text.bytes.len() {
             let at = here.at;
-            let b = text[at];
+            let b = text.bytes[at];
             if b == b']' {
                 let word = Word::Number(index);
                 return Step {
@@ -40,11 +41,10 @@ impl Cursor {
                     next: here.past(text),
                 };
             }
-            let d = hex_value(b);
-            if 15 < d {
+            let Some(d) = hex_digit(b) else {
                 let word = Word::Invalid;
                 return Step { word, next: here };
-            }
+            };
             if MOST_TO_LENGTHEN < index {
                 let word = Word::Invalid;
                 return Step { word, next: here };
@@ -57,17 +57,17 @@ impl Cursor {
     }
 
     // The word that begins here, white space being passed, in De Bruijn's notation.
-    pub(crate) fn first_de_bruijn(self, text: &[u8]) -> Step
-        requires { Clean text.now × Placed text.now self }
-        ensures { Tells text.now self (first_word (remains text.now self.at)) result
-            × (self.at + taken result.word ≤ result.next.at) × Last text.now result }
+    pub(crate) fn first_de_bruijn(self, text: Text) -> Step
+        requires { Placed text.bytes.now self }
+        ensures { Tells text.entry.bytes.now self (first_word (remains text.entry.bytes.now self.at)) result
+            × (self.at + taken result.word ≤ result.next.at) × Last text.entry.bytes.now result }
     {
         let at = self.at;
-        if text.len() <= at {
+        if text.bytes.len() <= at {
             let word = Word::End;
             return Step { word, next: self };
         }
-        let b = text[at];
+        let b = text.bytes[at];
         if b == b'[' {
             return self.bracketed(text);
         }
@@ -88,8 +88,7 @@ impl Cursor {
             let word = Word::Right;
             return Step { word, next };
         }
-        let d = hex_value(b);
-        if d < 16 {
+        if let Some(d) = hex_digit(b) {
             let word = Word::Number(d);
             return Step { word, next };
         }

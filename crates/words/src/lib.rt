@@ -1,41 +1,43 @@
-// The words of a text: a cursor that moves forward over its bytes, and passes that judge any text by 3, 4 and 5.
+// The words of a text: a cursor that moves forward over its bytes, and passes that judge any text.
 #![tactic(auto)]
 
 mod bytes;
 mod classic;
 mod de_bruijn;
 mod judging;
+pub mod text;
 
 ghost use Rattle.std.specs.Prelude.{◌≡◌, ◌+◌, ◌≤◌, ◌<◌, length};
-ghost use Rattle.calculus.specs.Characters.{same_text};
 ghost use Rattle.calculus.specs.Reading.{next};
 ghost use Rattle.term.specs.Notations.{notation_of};
-ghost use Rattle.words.specs.Places.{Clean, Placed, remains, past_char, name_of, Inside};
+ghost use Rattle.words.specs.Places.{Placed, remains, past_char};
 ghost use Rattle.words.specs.Runs.{test_of, Over};
 ghost use Rattle.words.specs.Steps.{taken, Last, Tells};
 ghost use Rattle.words.specs.Judging.{Judges};
 
 use bytes::{Run, SIGN_FIRST, may_hold};
 use calculus::MOST_TEXT;
-use judging::{Domain, scan_domain, scan_words};
+use judging::{scan_domain, scan_words};
 use term::{Notation, Refusal};
+use text::Text;
 
-// A reading place: the bytes and the characters before it.
-#[derive(Clone, Copy)]
+// A reading place: the bytes and the characters before it. Two words, passed in registers, so the text stays beside it.
+#[derive(Clone, Copy, Debug, PartialEq, Eq)]
 pub struct Cursor {
     pub at: usize,
     pub chars: usize,
 }
 
 // A name is a place in the text: its bytes stand from one offset up to another.
-#[derive(Clone, Copy)]
+#[derive(Clone, Copy, Debug, PartialEq, Eq)]
 pub struct Name {
     pub from: usize,
     pub to: usize,
 }
 
 // A word, the end of the text, or a character that is invalid.
-#[derive(Clone, Copy)]
+// No Option or Result: at each of the three a place is handed on.
+#[derive(Clone, Copy, Debug, PartialEq, Eq)]
 pub enum Word {
     End,
     Binder(Name),
@@ -47,7 +49,7 @@ pub enum Word {
 }
 
 // A word and the place after it, or the place of what is invalid.
-#[derive(Clone, Copy)]
+#[derive(Clone, Copy, Debug, PartialEq, Eq)]
 pub struct Step {
     pub word: Word,
     pub next: Cursor,
@@ -62,12 +64,12 @@ pub(crate) fn unnamed(at: usize) -> Name
 
 impl Cursor {
     // The place after the character that stands here.
-    pub(crate) fn past(self, text: &[u8]) -> Cursor
-        requires { Clean text.now × Placed text.now self × (self.at < length text.now) }
-        ensures { (result ≡ past_char text.now self) × Placed text.now result }
+    pub(crate) fn past(self, text: Text) -> Cursor
+        requires { Placed text.bytes.now self × (self.at < length text.bytes.now) }
+        ensures { (result ≡ past_char text.entry.bytes.now self) × Placed text.entry.bytes.now result }
     {
         let at = self.at;
-        if text[at] == SIGN_FIRST {
+        if text.bytes[at] == SIGN_FIRST {
             Cursor {
                 at: at + 2,
                 chars: self.chars + 1,
@@ -81,14 +83,14 @@ impl Cursor {
     }
 
     // The place after the run that begins here.
-    pub(crate) fn over(self, text: &[u8], run: Run) -> Cursor
-        requires { Clean text.now × Placed text.now self }
-        ensures { Over text.now (test_of run) self result }
+    pub(crate) fn over(self, text: Text, run: Run) -> Cursor
+        requires { Placed text.bytes.now self }
+        ensures { Over text.entry.bytes.now (test_of run) self result }
     {
         let mut here = self;
-        while here.at < text.len() {
+        while here.at < text.bytes.len() {
             let at = here.at;
-            if !may_hold(run, text[at]) {
+            if !may_hold(run, text.bytes[at]) {
                 return here;
             }
             here = here.past(text);
@@ -97,11 +99,11 @@ impl Cursor {
     }
 
     // The next word.
-    pub fn next(self, text: &[u8], notation: Notation) -> Step
-        requires { Clean text.now × Placed text.now self }
-        ensures { Tells text.now self
-            (next (notation_of notation) (remains text.now self.at)) result
-            × (self.at + taken result.word ≤ result.next.at) × Last text.now result }
+    pub fn next(self, text: Text, notation: Notation) -> Step
+        requires { Placed text.bytes.now self }
+        ensures { Tells text.entry.bytes.now self
+            (next (notation_of notation) (remains text.entry.bytes.now self.at)) result
+            × (self.at + taken result.word ≤ result.next.at) × Last text.entry.bytes.now result }
     {
         let here = self.over(text, Run::White);
         match notation {
@@ -111,31 +113,16 @@ impl Cursor {
     }
 }
 
-// That a text passes, or why it does not.
-#[derive(Clone, Copy)]
-pub enum Judged {
-    Fine,
-    Refused(Refusal),
-}
-
-// 3, 4, then 5.
+// The text if it passes: TextTooLong, OutsideDomain, then InvalidCharacter.
 #[tactic(auto, using(crate::proofs::Refusing::judging))]
-pub fn judge(notation: Notation, text: &[u8]) -> Judged
-    ensures { Judges (notation_of notation) text.now result }
+pub fn judge<'a>(notation: Notation, bytes: &'a [u8]) -> Result<Text<'a>, Refusal>
+    ensures { Judges (notation_of notation) bytes.now result }
 {
-    if MOST_TEXT < text.len() {
-        return Judged::Refused(Refusal::TextTooLong);
+    if MOST_TEXT < bytes.len() {
+        return Err(Refusal::TextTooLong);
     }
-    match scan_domain(text) {
-        Domain::Outside(offset) => Judged::Refused(Refusal::OutsideDomain(offset)),
-        Domain::Inside => scan_words(notation, text),
+    if let Some(offset) = scan_domain(bytes) {
+        return Err(Refusal::OutsideDomain(offset));
     }
-}
-
-// Whether two names are the same text.
-pub fn same_name(text: &[u8], x: Name, y: Name) -> bool
-    requires { Clean text.now × Inside text.now x × Inside text.now y }
-    ensures { result ≡ same_text (name_of text.now x) (name_of text.now y) }
-{
-    text[x.from..x.to] == text[y.from..y.to]
+    scan_words(notation, Text { bytes })
 }

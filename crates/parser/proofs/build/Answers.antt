@@ -5,7 +5,7 @@ use Rattle.parser.proofs.build.Goals as goal
 
 pub sequence-requires : goal.sequence-requires
 sequence-requires c =
-    ready-first _ refl c.requires.0 c.requires.1 c.requires.2
+    ready-first _ refl c.requires.0 c.requires.1
 
 pub save-requires : goal.save-requires
 save-requires c =

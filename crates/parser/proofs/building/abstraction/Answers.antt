@@ -1,5 +1,6 @@
 -- `parser::building::abstraction` meets its contract.
 use mathlib.Core.Path.{refl}
+use mathlib.Core.Logic.{inl, inr}
 use native.Mathlib.Omega.{arith}
 use Rattle.parser.proofs.Built.{encloses, no_body, empty-body, body-height, can_enclose}
 use Rattle.nodes.proofs.Keeping.{same_refl}
@@ -22,10 +23,7 @@ make_abstraction-requires c =
     can_enclose c.requires.0 c.if-cap-used.false _ c.in-Term.is c.requires.1 c.if-height-gt-MOST_HEIGHT.false
 
 pub returns-in-Nothing : goal.returns-in-Nothing
-returns-in-Nothing c = no_body c.in-Nothing.is
-
-pub returns-in-Empty : goal.returns-in-Empty
-returns-in-Empty c = empty-body c.in-Empty.is
+returns-in-Nothing c = elim c.in-Nothing.is [ inl e ↦ no_body e | inr e ↦ empty-body e ]
 
 pub returns-else-height-gt-MOST_HEIGHT : goal.returns-else-height-gt-MOST_HEIGHT
 returns-else-height-gt-MOST_HEIGHT c =

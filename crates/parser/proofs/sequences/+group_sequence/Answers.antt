@@ -32,12 +32,12 @@ sequence-loop-token-init t c = at_first _ _ _ _ _ _ _ _ c.requires
 pub sequence-token_at-requires : goal.sequence-token_at-requires
 sequence-token_at-requires t c =
     let here = c.loop-token.invariant.reaches.step in
-    (c.requires.clean, here.placed, here.valid, opened-here c.loop-token.invariant c.requires)
+    (here.placed, here.valid, opened-here c.loop-token.invariant c.args.text.clean c.requires)
 
 pub sequence-with_variable-read-requires : goal.sequence-with_variable-read-requires
 sequence-with_variable-read-requires t c =
     let so_far = c.loop-token.invariant in
-    (roomy-here so_far c.requires, enclosable-here so_far c.requires, few_used so_far c.requires)
+    (roomy-here so_far c.args.text.clean c.requires, enclosable-here so_far c.args.text.clean c.requires, few_used so_far c.args.text.clean c.requires)
 
 pub sequence-loop-token-smaller-in-Index : goal.sequence-loop-token-smaller-in-Index
 sequence-loop-token-smaller-in-Index t c =
@@ -59,7 +59,7 @@ sequence-group-requires t c =
     let met = met-as _ _ _ _ c.token_at.ensures c.in_ok-token.was c.in-Open.is in
     let here = c.loop-token.invariant.reaches.step in (
       omega (arith, c.decreases, met.moved, here.forward, met.step.placed.inside),
-      (ready-inside c.loop-token.invariant c.requires met.step, met.inside),
+      (ready-inside c.loop-token.invariant c.args.text.clean c.requires met.step, met.inside),
     )
 
 pub sequence-returns-in_err-went-in-Open : goal.sequence-returns-in_err-went-in-Open
@@ -74,8 +74,8 @@ sequence-with_abstraction-requires t c =
     let met = met-as _ _ _ _ c.token_at.ensures c.in_ok-token.was c.in-Open.is in
     let so_far = c.loop-token.invariant in
     let went = c.in_ok-went-in-Open.was in
-    let few = last-few so_far met went c.group.ensures c.requires in
-    (roomy_after so_far met went c.group.ensures c.requires, joinable-after so_far met went c.group.ensures, few)
+    let few = last-few so_far met went c.group.ensures c.args.text.clean c.requires in
+    (roomy_after so_far met went c.group.ensures c.args.text.clean c.requires, joinable-after so_far met went c.group.ensures, few)
 
 pub sequence-returns-in-Some : goal.sequence-returns-in-Some
 sequence-returns-in-Some t c =
@@ -88,7 +88,7 @@ sequence-joined-read-requires t c =
     let met = met-as _ _ _ _ c.token_at.ensures c.in_ok-token.was c.in-Open.is in
     let so_far = c.loop-token.invariant in
     let went = c.in_ok-went-in-Open.was in
-    (roomy_after so_far met went c.group.ensures c.requires, joinable-after so_far met went c.group.ensures)
+    (roomy_after so_far met went c.group.ensures c.args.text.clean c.requires, joinable-after so_far met went c.group.ensures)
 
 pub sequence-loop-token-smaller : goal.sequence-loop-token-smaller
 sequence-loop-token-smaller t c =

@@ -13,14 +13,14 @@ pub returns-then-same_name : goal.returns-then-same_name
 returns-then-same_name c =
     let y = YieldsList-from_rev_slice (take c.args.count c.args.stack.now) cc in
     let t = YieldsList-turn y c.loop-open.yielded _ c.loop-open.yielded_by _ _ c.in-Some.open c.in-Some.is c.next.ensures.steps in
-    let (some_left, is) = given_next _ _ _ None _ (omega (arith, c.requires.2.few, c.requires.2.as_long)) t in
+    let (some_left, is) = given_next _ _ _ None _ (omega (arith, c.requires.1.few, c.requires.1.as_long)) t in
     looked_up c.loop-open.invariant some_left (is ∙ c.in-Some-open.is) (rw c.name.ensures at (sym c.same_name.ensures ∙ c.if-same_name.true))
 
 pub loop-open-preserved-in-Some-open : goal.loop-open-preserved-in-Some-open
 loop-open-preserved-in-Some-open c =
     let y = YieldsList-from_rev_slice (take c.args.count c.args.stack.now) cc in
     let t = YieldsList-turn y c.loop-open.yielded _ c.loop-open.yielded_by _ _ c.in-Some.open c.in-Some.is c.next.ensures.steps in
-    let (some_left, is) = given_next _ _ _ None _ (omega (arith, c.requires.2.few, c.requires.2.as_long)) t in
+    let (some_left, is) = given_next _ _ _ None _ (omega (arith, c.requires.1.few, c.requires.1.as_long)) t in
     one_fewer c.args.count c.loop-open.yielded c.in-Some.open
     (looks_past-binder c.loop-open.invariant some_left (is ∙ c.in-Some-open.is)
     (rw c.name.ensures at (sym c.same_name.ensures ∙ c.if-same_name.false)))
@@ -29,7 +29,7 @@ pub loop-open-preserved : goal.loop-open-preserved
 loop-open-preserved c =
     let y = YieldsList-from_rev_slice (take c.args.count c.args.stack.now) cc in
     let t = YieldsList-turn y c.loop-open.yielded _ c.loop-open.yielded_by _ _ c.in-Some.open c.in-Some.is c.next.ensures.steps in
-    let (some_left, is) = given_next _ _ _ None _ (omega (arith, c.requires.2.few, c.requires.2.as_long)) t in
+    let (some_left, is) = given_next _ _ _ None _ (omega (arith, c.requires.1.few, c.requires.1.as_long)) t in
     one_fewer c.args.count c.loop-open.yielded c.in-Some.open
     (looks_past-group c.loop-open.invariant some_left (is ∙ c.in_default.is))
 
@@ -38,4 +38,4 @@ returns c =
     let y = YieldsList-from_rev_slice (take c.args.count c.args.stack.now) cc in
     let t = YieldsList-end y c.loop-open.yielded _ c.loop-open.yielded_by _ _ c.in-None.is c.next.ensures.steps in
     looked_all c.loop-open.invariant (none_left c.args.stack.now c.args.count c.loop-open.yielded t.1
-    (omega (arith, c.requires.2.few, c.requires.2.as_long)))
+    (omega (arith, c.requires.1.few, c.requires.1.as_long)))

@@ -5,4 +5,4 @@ use Rattle.words.specs.Places.{name_of}
 use Rattle.parser.proofs.tokens.resolve.Given as goal
 
 abbrev pub invariant-loop-open : goal.invariant-loop-open
-invariant-loop-open l = Looks l.text l.stack (name_of l.text l.name) l.count (l.count - length l.yielded) l.index
+invariant-loop-open l = Looks l.text.bytes.now l.stack (name_of l.text.bytes.now l.name) l.count (l.count - length l.yielded) l.index

@@ -5,54 +5,54 @@ use Rattle.parser.proofs.tokens.token_at.Goals as goal
 
 pub resolve-requires : goal.resolve-requires
 resolve-requires c =
-    (c.requires.0, rw c.in-Named.is at c.next-step.ensures.0.names, c.requires.3)
+    (rw c.in-Named.is at c.next-step.ensures.0.names, c.requires.2)
 
 pub returns-in-Number : goal.returns-in-Number
 returns-in-Number c =
     let told = c.next-step.ensures.0 in
-    meets-number c.requires.2 told.placed told.forward _
+    meets-number c.requires.1 told.placed told.forward _
     (rw c.in-Number.is at c.next-step.ensures.1) (rw c.in-Number.is at told.tells)
 
 pub returns-in-Left : goal.returns-in-Left
 returns-in-Left c =
     let told = c.next-step.ensures.0 in
-    meets-left c.requires.2 told.placed told.forward
+    meets-left c.requires.1 told.placed told.forward
     (rw c.in-Left.is at c.next-step.ensures.1) (rw c.in-Left.is at told.tells)
 
 pub returns-in-Binder : goal.returns-in-Binder
 returns-in-Binder c =
     let told = c.next-step.ensures.0 in
-    rw c.named.ensures (meets-binder c.requires.2 told.placed told.forward _
+    rw c.named.ensures (meets-binder c.requires.1 told.placed told.forward _
     (rw c.in-Binder.is at c.next-step.ensures.1) (rw c.in-Binder.is at told.names).1
     (rw c.in-Binder.is at told.tells))
 
 pub returns-in-Right : goal.returns-in-Right
 returns-in-Right c =
     let told = c.next-step.ensures.0 in
-    meets-right c.requires.2 told.placed told.forward (rw c.in-Right.is at told.tells)
+    meets-right c.requires.1 told.placed told.forward (rw c.in-Right.is at told.tells)
 
 pub returns-in-End : goal.returns-in-End
 returns-in-End c =
     let told = c.next-step.ensures.0 in
-    meets_end c.requires.2 told.placed told.forward (rw c.in-End.is at told.tells)
+    meets_end c.requires.1 told.placed told.forward (rw c.in-End.is at told.tells)
     (c.next-step.ensures.2 c.in-End.is)
 
 pub returns-in_default : goal.returns-in_default
 returns-in_default c =
     let told = c.next-step.ensures.0 in
-    meets_undefined c.requires.2 told.placed told.forward _ c.resolve.ensures
+    meets_undefined c.requires.1 told.placed told.forward _ c.resolve.ensures
     (rw c.in-Named.is at told.tells) c.in_default.is
 
 pub returns-in-Some : goal.returns-in-Some
 returns-in-Some c =
     let told = c.next-step.ensures.0 in
-    meets-name c.requires.2 told.placed told.forward _ c.resolve.ensures
+    meets-name c.requires.1 told.placed told.forward _ c.resolve.ensures
     (rw c.in-Named.is at told.tells) c.in-Some.is (rw c.in-Named.is at c.next-step.ensures.1)
 
 pub unreachable-requires : goal.unreachable-requires
 unreachable-requires c =
     let told = c.next-step.ensures.0 in
-    never_invalid c.requires.2 c.requires.0 told.placed (rw c.in-Invalid.is at told.tells)
+    never_invalid c.requires.1 c.args.text.clean told.placed (rw c.in-Invalid.is at told.tells)
 
 pub named-requires : goal.named-requires
-named-requires c = place-fits c.requires.0 (rw c.in-Binder.is at c.next-step.ensures.0.names)
+named-requires c = place-fits c.args.text.clean (rw c.in-Binder.is at c.next-step.ensures.0.names)

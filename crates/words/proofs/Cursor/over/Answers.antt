@@ -6,7 +6,7 @@ use Rattle.words.proofs.Passing.{passed-stop, passed_end}
 use Rattle.words.proofs.Cursor.over.Goals as goal
 
 pub loop-here-init : goal.loop-here-init
-loop-here-init c = passing_none c.requires
+loop-here-init c = passing_none (c.args.text.clean, c.requires)
 
 pub returns-then-not-may_hold : goal.returns-then-not-may_hold
 returns-then-not-may_hold c =
@@ -14,9 +14,7 @@ returns-then-not-may_hold c =
     passed-stop passing c.loop-here-test.true (sym c.may_hold.ensures ∙ c.if-not-may_hold.true)
 
 pub past-here-requires : goal.past-here-requires
-past-here-requires c =
-    let passing = c.loop-here.invariant in
-    stands_here passing c.loop-here-test.true
+past-here-requires c = (c.loop-here.invariant.placed, c.loop-here-test.true)
 
 pub loop-here-smaller : goal.loop-here-smaller
 loop-here-smaller c =

@@ -6,7 +6,7 @@ use Rattle.words.proofs.Passing.{Passing}
 use Rattle.words.proofs.Cursor.over.Given as goal
 
 abbrev pub invariant-loop-here : goal.invariant-loop-here
-invariant-loop-here l = Passing l.text (test_of l.run) l.initial.here l.here
+invariant-loop-here l = Passing l.text.bytes.now (test_of l.run) l.initial.here l.here
 
 abbrev pub decreases-loop-here : goal.decreases-loop-here
-decreases-loop-here l = length l.text - l.here.at
+decreases-loop-here l = length l.text.bytes.now - l.here.at

@@ -5,8 +5,8 @@ use Rattle.term.specs.Notations.{notation_of}
 use Rattle.words.proofs.Scanning.{Reached}
 use Rattle.words.proofs.judging.scan_words.Given as goal
 
-abbrev pub invariant-loop-here : goal.invariant-loop-here
-invariant-loop-here l = Reached (notation_of l.notation) l.text l.here
+abbrev pub invariant-loop-text : goal.invariant-loop-text
+invariant-loop-text l = Reached (notation_of l.notation) l.text.bytes.now l.here
 
-abbrev pub decreases-loop-here : goal.decreases-loop-here
-decreases-loop-here l = length l.text - l.here.at
+abbrev pub decreases-loop-text : goal.decreases-loop-text
+decreases-loop-text l = length l.text.bytes.now - l.here.at
