@@ -1,36 +1,49 @@
--- From the check's answer to a query's, for whatever is asked of the facts.
-use Prim.Native.Nat.{ℕ}
-use mathlib.Core.Path.{◌≡◌, refl, ap, ◌∙◌}
-use mathlib.Core.List.{List}
+-- From a check's answer to a query's: a refusal is handed on, and a fact is what the query asks.
+use Rattle.std.specs.Prelude.{ℕ, Bool, not, ◌≡◌, List, Result, Ok, Err, IsErrAnd}
+use Rattle.std.proofs.Common.{refl, ap, ◌∙◌}
 use Rattle.calculus.specs.Term.{Term}
 use Rattle.calculus.specs.Bounds.{most_nodes}
 use Rattle.calculus.specs.Refusal.{Answer, given, refused, ◌then◌}
-use Rattle.calculus.specs.Outcomes.{checked, query_of}
+use Rattle.calculus.specs.Outcomes.{query_of, checked, has_free_variables_of, is_supercombinator_of}
+use Rattle.calculus.specs.Queries.{has_free_variables}
 use Rattle.term.specs.FactsOf.{facts_of}
-use Rattle.term.specs.Answers.{refusal_of, told, check_of}
+use Rattle.term.specs.Answers.{told, check_of}
 use Rattle.term.specs.declared.Facts.{Facts}
 use Rattle.term.specs.declared.Refusal.{Refusal}
-use Rattle.std.specs.Prelude.{Result, Ok, Err}
-use Rattle.term.proofs.Checking.{check-whole, check-refused}
+use Rattle.term.proofs.Checking.{check-whole, check-refused, handed_on}
 
-module _ (s : List ℕ) {r : Result Facts Refusal} (says : told r ≡ check_of most_nodes s) {A : Type 0} where
-  pub asked : (pick : Facts → A) {f : Facts} → r ≡ Ok f → given (pick f) ≡ query_of (λ t. pick (facts_of 0 t)) s
+module _ {A : Type 0} (ask : Term → A) (s : List ℕ) {r : Result Facts Refusal} (says : told r ≡ check_of most_nodes s) where
+  pub refused_alike : (q : Result A Refusal) {why : Refusal} → IsErrAnd q (λ y. y ≡ why) → r ≡ Err why
+      → told q ≡ query_of ask s
   unfolding query_of
-  asked pick e =
-      let w = check-whole most_nodes s says e in
-      ap (λ f. given (pick f)) w.same ∙ rw w.let_through
+  refused_alike q h e = rw (check-refused most_nodes s says e) (handed_on q _ h)
 
-  pub refused_alike : (ask : Term → A) {why : Refusal} → r ≡ Err why → refused (refusal_of why) ≡ query_of ask s
+  pub given_alike : (pick : Facts → A) → ((t : Term) → pick (facts_of 0 t) ≡ ask t) → {f : Facts} → r ≡ Ok f
+      → given (pick f) ≡ query_of ask s
   unfolding query_of
-  refused_alike ask e = rw (check-refused most_nodes s says e)
+  given_alike pick same e =
+      let whole = check-whole most_nodes s says e in
+      rw whole.let_through (ap given (ap pick whole.same ∙ same whole.term))
 
 -- an answer that is worked on further
-pub asked-further : {A B : Type 0} (ask : Term → A) (more : A → B) (s : List ℕ)
+further : {A B : Type 0} (ask : Term → A) (more : A → B) (s : List ℕ)
     → (query_of ask s then (λ a. given (more a))) ≡ query_of (λ t. more (ask t)) s
 unfolding query_of
-asked-further ask more s = read (checked most_nodes s)
+further ask more s = read (checked most_nodes s)
   where
     read : (a : Answer Term) → (a then (λ t. given (ask t)) then (λ x. given (more x)))
         ≡ (a then (λ t. given (more (ask t))))
     read (given t) = refl
     read (refused why) = refl
+
+module _ (s : List ℕ) {r : Result Bool Refusal} (says : told r ≡ has_free_variables_of s) where
+  opposite : (b : Result Bool Refusal) → r ≡ b → (told b then (λ free. given (not free))) ≡ is_supercombinator_of s
+  unfolding is_supercombinator_of has_free_variables_of
+  opposite b e = ap (λ a. a then (λ b. given (not b))) (rw e at says) ∙ further has_free_variables not s
+
+  pub opposite_refused : (q : Result Bool Refusal) {why : Refusal} → IsErrAnd q (λ y. y ≡ why) → r ≡ Err why
+      → told q ≡ is_supercombinator_of s
+  opposite_refused q h e = handed_on q _ h ∙ opposite _ e
+
+  pub opposite_given : {b : Bool} → r ≡ Ok b → given (not b) ≡ is_supercombinator_of s
+  opposite_given e = opposite _ e

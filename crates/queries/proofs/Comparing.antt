@@ -1,15 +1,13 @@
 -- Two terms compared from the root, node by node, at one offset of each input.
-use Prim.Native.Nat.{ℕ, zero, suc, ◌+◌, ◌-◌, ◌≤◌}
-use mathlib.Core.Path.{◌≡◌, refl, sym, ap, ap₂, ◌∙◌}
-use mathlib.Core.Bool.{Bool, true, false, not, true≢false, false≢true}
+use Prim.Native.Nat.{ℕ, ◌+◌, ◌-◌, ◌≤◌}
+use mathlib.Core.Path.{◌≡◌, refl, sym, ap, ◌∙◌}
+use mathlib.Core.Bool.{Bool, true, false}
 use mathlib.Core.List.{List}
 use native.Mathlib.Omega.{arith}
-use lib.Dec.{eqb}
 use lib.ListN.{drop}
-use borrow.Author.Tests.{eqb-true, eqb-false}
 use Rattle.calculus.specs.Term.{Term, var, height}
 use Rattle.calculus.specs.Bounds.{most_nodes, most_height}
-use Rattle.calculus.specs.Refusal.{given, refused}
+use Rattle.calculus.specs.Refusal.{given}
 use Rattle.calculus.specs.Outcomes.{equality_of}
 use Rattle.calculus.proofs.Coding.{AllBytes}
 use Rattle.calculus.proofs.Judged.{checked-given}
@@ -20,70 +18,40 @@ use Rattle.calculus.proofs.Sizes.{size}
 use Rattle.calculus.proofs.Tests.{is_false}
 use Rattle.term.specs.Heads.{head_in}
 use Rattle.term.specs.Surveys.{Stands, Begins}
-use Rattle.term.specs.declared.Head.{Head}
 use Rattle.term.specs.declared.Head.TheVariants.{Variable, Abstraction, Application}
-use Rattle.term.specs.Answers.{refusal_of, told, check_of}
+use Rattle.term.specs.Answers.{told, check_of}
 use Rattle.term.specs.declared.Facts.{Facts}
 use Rattle.term.specs.declared.Refusal.{Refusal}
-use Rattle.std.specs.Prelude.{Option, Some, None, Result, Ok, Err}
-use Rattle.term.proofs.Checking.{decoded_stands, check-whole, check-refused}
+use Rattle.std.specs.Prelude.{Option, Some, None, is_some, Result, Ok, Err, IsErrAnd}
+use Rattle.term.proofs.Checking.{decoded_stands, check-whole, check-refused, handed_on}
 use Rattle.term.proofs.Places.{head_of_term, head_at, term-begins}
 use Rattle.term.proofs.Places.{is-variable, is-abstraction, is-application}
-use Rattle.queries.specs.Comparing.{kind_of, index_of, Decides, holds, fails, Low, until_if, Compares, agrees}
-use Rattle.queries.specs.declared.Same.{Same}
-use Rattle.queries.specs.declared.Same.TheVariants.{Until, Differs}
-
--- HEADS are told apart by kind and index
-head_from : (kind index : ℕ) → Head
-head_from zero i = Application
-head_from (suc zero) i = Variable i
-head_from (suc (suc zero)) i = Abstraction
-head_from (suc (suc (suc k))) i = Application
-
-head_back : (h : Head) → head_from (kind_of h) (index_of h) ≡ h
-unfolding head_from
-head_back (Variable i) = refl
-head_back Abstraction = refl
-head_back Application = refl
-
-pub heads_decided : (a b : Head) → kind_of a ≡ kind_of b → (t : Bool) → eqb (index_of a) (index_of b) ≡ t
-    → Decides (a ≡ b) t
-heads_decided a b e true h =
-    holds (sym (head_back a) ∙ ap₂ head_from e (eqb-true (index_of a) (index_of b) h) ∙ head_back b)
-heads_decided a b e false h = fails (λ same. eqb-false (index_of a) (index_of b) h (ap index_of same))
-
-pub decided_so : {P : Type 0} {b : Bool} → Decides P b → not b ≡ false → P
-decided_so (holds p) e = p
-decided_so (fails f) e = absurd (true≢false e)
-
-pub decided_not : {P : Type 0} {b : Bool} → Decides P b → not b ≡ true → P → ⊥
-decided_not (holds p) e q = absurd (false≢true e)
-decided_not (fails f) e q = f q
+use Rattle.queries.specs.Comparing.{Low, until_if, Compares}
 
 -- WHAT THE COMPARISON ANSWERS at each head
-until_is : (b : Bool) {end next : ℕ} → Until next ≡ until_if b end → (b ≡ true) × (next ≡ end)
+until_is : (b : Bool) {end next : ℕ} → Some next ≡ until_if b end → (b ≡ true) × (next ≡ end)
 until_is true e = (refl, cc)
 until_is false e = let never : ◌≡◌ {A = ℕ} 0 1 = cc in absurd (omega arith)
 
-differs_is : (b : Bool) (end : ℕ) → Differs ≡ until_if b end → b ≡ false
+differs_is : (b : Bool) (end : ℕ) → None ≡ until_if b end → b ≡ false
 differs_is true end e = let never : ◌≡◌ {A = ℕ} 0 1 = cc in absurd (omega arith)
 differs_is false end e = refl
 
 module _ {s u : List ℕ} {at : ℕ} where
-  pub differ_here : (head_in (drop at s) ≡ head_in (drop at u) → ⊥) → Compares s u at Differs
+  pub differ_here : (head_in (drop at s) ≡ head_in (drop at u) → ⊥) → Compares s u at None
   differ_here ne = record {
     compared = λ t v st su.
         rw (is_false (same t v) (λ e. ne (head_at st ∙ ap head_of_term (same_equal t v e) ∙ sym (head_at su))));
   }
 
   pub same-variable : {i : ℕ} → head_in (drop at s) ≡ Some (Variable i) → head_in (drop at u) ≡ Some (Variable i)
-      → Compares s u at (Until (at + 9))
+      → Compares s u at (Some (at + 9))
   unfolding size
   same-variable {i} h k = record {
     compared = λ t v st su. rw (is-variable t h st, is-variable v k su, same_refl (var i));
   }
 
-  pub same-abstraction : {r : Same} → head_in (drop at s) ≡ Some Abstraction → head_in (drop at u) ≡ Some Abstraction
+  pub same-abstraction : {r : Option ℕ} → head_in (drop at s) ≡ Some Abstraction → head_in (drop at u) ≡ Some Abstraction
       → Compares s u (at + 1) r → Compares s u at r
   unfolding same size
   same-abstraction h k body = record {
@@ -94,8 +62,8 @@ module _ {s u : List ℕ} {at : ℕ} where
         rw (x.same, y.same) (found ∙ ap (until_if (same x.body y.body)) (omega arith));
   }
 
-  pub left_differs : {l : Same} → head_in (drop at s) ≡ Some Application → head_in (drop at u) ≡ Some Application
-      → Compares s u (at + 1) l → l ≡ Differs → Compares s u at Differs
+  pub left_differs : {l : Option ℕ} → head_in (drop at s) ≡ Some Application → head_in (drop at u) ≡ Some Application
+      → Compares s u (at + 1) l → l ≡ None → Compares s u at None
   unfolding same
   left_differs h k left e = record {
     compared = λ t v st su.
@@ -106,8 +74,8 @@ module _ {s u : List ℕ} {at : ℕ} where
   }
 
   -- the left parts are the same: where the right ones stand
-  left-same : {l : Same} {mid : ℕ} → (h : head_in (drop at s) ≡ Some Application) (k : head_in (drop at u) ≡ Some Application)
-      → Compares s u (at + 1) l → l ≡ Until mid → (t v : Term) (st : Stands s at t) (su : Stands u at v)
+  left-same : {l : Option ℕ} {mid : ℕ} → (h : head_in (drop at s) ≡ Some Application) (k : head_in (drop at u) ≡ Some Application)
+      → Compares s u (at + 1) l → l ≡ Some mid → (t v : Term) (st : Stands s at t) (su : Stands u at v)
       → let x = is-application t h st in let y = is-application v k su in
       (same x.left y.left ≡ true) × (mid ≡ at + 1 + size x.left)
       × Stands s mid x.right × Stands u mid y.right
@@ -119,8 +87,8 @@ module _ {s u : List ℕ} {at : ℕ} where
       let one = same_equal x.left y.left alike in
       (alike, end, rw end x.right_at, rw (end, one) y.right_at)
 
-  pub same-application : {l r : Same} {mid : ℕ} → head_in (drop at s) ≡ Some Application
-      → head_in (drop at u) ≡ Some Application → Compares s u (at + 1) l → l ≡ Until mid → Compares s u mid r
+  pub same-application : {l r : Option ℕ} {mid : ℕ} → head_in (drop at s) ≡ Some Application
+      → head_in (drop at u) ≡ Some Application → Compares s u (at + 1) l → l ≡ Some mid → Compares s u mid r
       → Compares s u at r
   unfolding same size
   same-application h k left e right = record {
@@ -155,8 +123,8 @@ module _ {s : List ℕ} {at room : ℕ} (st : Low s at room) where
       let x = is-application st.begins.term h st.begins.stands in
       stands-low x.left_at (omega (arith, st.low, ap height x.same))
 
-  module _ {u : List ℕ} (su : Begins u at) {l : Same} {mid : ℕ} (h : head_in (drop at s) ≡ Some Application)
-      (k : head_in (drop at u) ≡ Some Application) (left : Compares s u (at + 1) l) (e : l ≡ Until mid) where
+  module _ {u : List ℕ} (su : Begins u at) {l : Option ℕ} {mid : ℕ} (h : head_in (drop at s) ≡ Some Application)
+      (k : head_in (drop at u) ≡ Some Application) (left : Compares s u (at + 1) l) (e : l ≡ Some mid) where
     pub right-low : Low s mid (room - 1)
     unfolding height
     right-low =
@@ -180,20 +148,22 @@ whole-low s bytes says e =
     stands-low (decoded_stands s bytes decoded) low
 
 module _ (s u : List ℕ) {r : Result Facts Refusal} (says : told r ≡ check_of most_nodes s) where
-  pub refuses-first : {why : Refusal} → r ≡ Err why → refused (refusal_of why) ≡ equality_of s u
+  pub refuses-first : (a : Result Bool Refusal) {why : Refusal} → IsErrAnd a (λ y. y ≡ why) → r ≡ Err why
+      → told a ≡ equality_of s u
   unfolding equality_of
-  refuses-first e = rw (check-refused most_nodes s says e)
+  refuses-first a h e = rw (check-refused most_nodes s says e) (handed_on a _ h)
 
   module _ {f : Facts} (e : r ≡ Ok f) {q : Result Facts Refusal} (says' : told q ≡ check_of most_nodes u) where
-    pub refuses-second : {why : Refusal} → q ≡ Err why → refused (refusal_of why) ≡ equality_of s u
+    pub refuses-second : (a : Result Bool Refusal) {why : Refusal} → IsErrAnd a (λ y. y ≡ why) → q ≡ Err why
+        → told a ≡ equality_of s u
     unfolding equality_of
-    refuses-second k =
+    refuses-second a h k =
         let w = check-whole most_nodes s says e in
-        rw (w.let_through, check-refused most_nodes u says' k)
+        rw (w.let_through, check-refused most_nodes u says' k) (handed_on a _ h)
 
     -- the comparison is about the two terms that were let through
-    pub answers : {g : Facts} {x : Same} → q ≡ Ok g → AllBytes s → AllBytes u → Compares s u 0 x
-        → given (agrees x) ≡ equality_of s u
+    pub answers : {g : Facts} {x : Option ℕ} → q ≡ Ok g → AllBytes s → AllBytes u → Compares s u 0 x
+        → given (is_some x) ≡ equality_of s u
     unfolding equality_of
     answers k bytes bytes' found =
         let w = check-whole most_nodes s says e in
@@ -203,6 +173,6 @@ module _ (s u : List ℕ) {r : Result Facts Refusal} (says : told r ≡ check_of
         let same_so = found.compared w.term z.term st su in
         rw (w.let_through, z.let_through, same_so) (ap given (agrees_until (same w.term z.term) _))
       where
-        agrees_until : (b : Bool) (end : ℕ) → agrees (until_if b end) ≡ b
+        agrees_until : (b : Bool) (end : ℕ) → is_some (until_if b end) ≡ b
         agrees_until true end = refl
         agrees_until false end = refl

@@ -1,4 +1,2 @@
 -- What the code of this crate answers, by the definitions of `calculus`.
-pub mod Answers
-pub mod Asking
 pub mod Comparing

@@ -1,14 +1,14 @@
+use Rattle.std.proofs.Common.{refl}
 use Rattle.calculus.specs.Queries.{has_free_variables}
 use Rattle.calculus.specs.Outcomes.{has_free_variables_of}
 use Rattle.term.specs.FactsOf.{facts_of}
-use Rattle.queries.specs.Answers.{truth_told}
-use Rattle.queries.proofs.Asking.{asked, refused_alike}
+use Rattle.queries.proofs.Asking.{refused_alike, given_alike}
 use Rattle.queries.proofs.has_free_variables.Goals as goal
 
-pub returns-in-Ok : goal.returns-in-Ok
-unfolding truth_told has_free_variables_of facts_of
-returns-in-Ok c = asked c.args.s.now c.check.ensures (λ f. f.free) c.in-Ok.is
+pub returns-in_err-check : goal.returns-in_err-check
+unfolding has_free_variables_of
+returns-in_err-check c = refused_alike has_free_variables _ c.check.ensures _ c.from_residual.ensures.1 c.in_err-check.was
 
-pub returns-in-Err : goal.returns-in-Err
-unfolding truth_told has_free_variables_of
-returns-in-Err c = refused_alike c.args.s.now c.check.ensures has_free_variables c.in-Err.is
+pub returns : goal.returns
+unfolding has_free_variables_of facts_of
+returns c = given_alike has_free_variables _ c.check.ensures (λ f. f.free) (λ t. refl) c.in_ok-check.was

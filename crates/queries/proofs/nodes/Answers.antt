@@ -1,0 +1,14 @@
+use Rattle.std.proofs.Common.{refl}
+use Rattle.calculus.specs.Term.{nodes}
+use Rattle.calculus.specs.Outcomes.{nodes_of}
+use Rattle.term.specs.FactsOf.{facts_of}
+use Rattle.queries.proofs.Asking.{refused_alike, given_alike}
+use Rattle.queries.proofs.nodes.Goals as goal
+
+pub returns-in_err-check : goal.returns-in_err-check
+unfolding nodes_of
+returns-in_err-check c = refused_alike nodes _ c.check.ensures _ c.from_residual.ensures.1 c.in_err-check.was
+
+pub returns : goal.returns
+unfolding nodes_of facts_of
+returns c = given_alike nodes _ c.check.ensures (λ f. f.nodes) (λ t. refl) c.in_ok-check.was
