@@ -26,21 +26,15 @@ use Rattle.term.specs.declared.Facts.{Facts}
 use Rattle.term.specs.declared.Notation.{Notation}
 use Rattle.term.specs.declared.Refusal.{Refusal}
 use Rattle.term.specs.declared.Refusal.TheVariants.{OutputTooShort}
-use Rattle.std.specs.Prelude.{Result, Ok, Err}
-use Rattle.term.proofs.Checking.{decoded_stands, check-whole, check-refused}
+use Rattle.std.specs.Prelude.{Option, Some, Result, Ok, Err, IsErrAnd}
+use Rattle.term.proofs.Checking.{decoded_stands, check-whole, check-refused, handed_on}
 use Rattle.printer.specs.Parts.{part_text, Writable}
-use Rattle.printer.specs.Answers.{printed_told}
 use Rattle.printer.specs.Printing.{StyleOf, Printable, Measures, Fitting, Prints}
 use Rattle.printer.specs.Writers.{WritesWhole}
 use Rattle.printer.specs.Gauges.{style_by, GaugedWhole, GaugesWhole}
 use Rattle.printer.specs.declared.gauging.Gauge.{Gauge}
-use Rattle.printer.specs.declared.gauging.Gauge.TheVariants as gauge
 use Rattle.printer.specs.declared.pieces.Style.{Style}
 use Rattle.printer.specs.declared.Part.TheVariants.{Whole}
-use Rattle.printer.specs.declared.Fit.{Fit}
-use Rattle.printer.specs.declared.Fit.TheVariants.{Fits, Needs}
-use Rattle.printer.specs.declared.Printed.{Printed}
-use Rattle.printer.specs.declared.Printed.TheVariants.{Length, Refused}
 
 -- the text of a term in a style
 abbrev text_in : Style → Term → List ℕ
@@ -75,8 +69,11 @@ module _ {w : Style} {s before : List ℕ} {from to : ℕ} {after : List ℕ} wh
   written_to wrote e k = rw (e, k) wrote
 
 -- WHETHER IT FITS
+abbrev Fit : Type 0
+Fit = Result (Unit {0}) Refusal
+
 module _ (w : Style) (plenty : ℕ) (s : List ℕ) (room : ℕ) where
-  pub spacious : plenty ≤ room → Fitting w plenty s room Fits
+  pub spacious : plenty ≤ room → Fitting w plenty s room (Ok tt)
   spacious h = record {
     fitting = λ t st e. rw (le-leb (length (text_in w t)) room (omega (arith, e.short)));
   }
@@ -85,16 +82,16 @@ module _ (w : Style) (plenty : ℕ) (s : List ℕ) (room : ℕ) where
     text-measured : (t : Term) → Stands s 0 t → StyleOf w plenty t → needed ≡ length (text_in w t)
     text-measured t st e = measured.measured t st ∙ ap length (whole-text w t e.deep)
 
-    pub enough : needed ≤ room → Fitting w plenty s room Fits
+    pub enough : needed ≤ room → Fitting w plenty s room (Ok tt)
     enough h = record {
       fitting = λ t st e. rw (le-leb (length (text_in w t)) room (omega (arith, text-measured t st e)));
     }
 
-    pub too_long : room < needed → Fitting w plenty s room (Needs needed)
+    pub too_long : room < needed → Fitting w plenty s room (Err (OutputTooShort needed))
     too_long h = record {
       fitting = λ t st e.
           let same = text-measured t st e in
-          rw (lt-leb (length (text_in w t)) room (omega (arith, same))) (ap Needs same);
+          rw (lt-leb (length (text_in w t)) room (omega (arith, same))) (ap (λ n. Err (OutputTooShort n)) same);
     }
 
 -- the text is as long as it is measured
@@ -103,29 +100,14 @@ pub measured_length : (w : Style) (t : Term) → w.most ≡ max_depth t
 measured_length w t e = ap length (sym (whole-text w t e))
 
 -- what the answer tells of the test
-fits_so : (b : Bool) (length : ℕ) → Fits ≡ cond b Fits (Needs length) → b ≡ true
+fits_so : (b : Bool) (length : ℕ) → ◌≡◌ {A = Fit} (Ok tt) (cond b (Ok tt) (Err (OutputTooShort length))) → b ≡ true
 fits_so true length e = refl
 fits_so false length e = let never : ◌≡◌ {A = ℕ} 0 1 = cc in absurd (omega arith)
 
-needs_so : (b : Bool) {needed : ℕ} (length : ℕ) → Needs needed ≡ cond b Fits (Needs length)
-    → (b ≡ false) × (needed ≡ length)
-needs_so true length e = let never : ◌≡◌ {A = ℕ} 0 1 = cc in absurd (omega arith)
-needs_so false length e = (refl, cc)
-
--- WHAT A WHOLE TERM COMES TO: 13, or the text
+-- WHAT A WHOLE TERM COMES TO where its text fits
 module _ {w : Style} {plenty : ℕ} {s out : List ℕ} {fit : Fit} (fits : Fitting w plenty s (length out) fit) where
-  pub refuses-short : {needed : ℕ} → fit ≡ Needs needed → Prints w plenty s out (Refused (OutputTooShort needed)) out
-  unfolding printed_told
-  refuses-short k = record {
-    printed = λ t st e.
-        let long = length (text_in w t) in
-        let (over, same) = needs_so (leb long (length out)) long (sym k ∙ fits.fitting t st e) in
-        rw (over, same);
-  }
-
-  pub prints : {to : ℕ} {after : List ℕ} → fit ≡ Fits → WritesWhole w s out 0 to after
-      → Prints w plenty s out (Length to) after
-  unfolding printed_told
+  pub prints : {to : ℕ} {after : List ℕ} → fit ≡ Ok tt → WritesWhole w s out 0 to after
+      → Prints w plenty s out (Ok to) after
   prints k write = record {
     printed = λ t st e.
         let text = text_in w t in
@@ -144,17 +126,17 @@ module _ {w : Style} {plenty : ℕ} (s : List ℕ) {t : Term} (passes : checked 
       let (decoded, low, few) = checked-given s passes in
       record { term = t; stands = decoded_stands s bytes decoded; style = style; low = low; few = few }
 
-  pub printed-passed : {out : List ℕ} {p : Printed} {after : List ℕ} → Prints w plenty s out p after
-      → (printed_told p, after) ≡ print_of (notation_of w.notation) s out
+  pub printed-passed : {out : List ℕ} {p : Result ℕ Refusal} {after : List ℕ} → Prints w plenty s out p after
+      → (told p, after) ≡ print_of (notation_of w.notation) s out
   unfolding print_of
   printed-passed print = rw passes (print.printed t (decoded_stands s bytes (checked-given s passes).0) style)
 
 -- after a check
 module _ (n : Notation) (s : List ℕ) {r : Result Facts Refusal} (says : told r ≡ check_of most_nodes s) where
-  pub refuses-input : (out : List ℕ) {why : Refusal} → r ≡ Err why
-      → (printed_told (Refused why), out) ≡ print_of (notation_of n) s out
-  unfolding print_of printed_told
-  refuses-input out e = rw (check-refused most_nodes s says e)
+  pub refuses-input : (out : List ℕ) (p : Result ℕ Refusal) {why : Refusal} → IsErrAnd p (λ y. y ≡ why) → r ≡ Err why
+      → (told p, out) ≡ print_of (notation_of n) s out
+  unfolding print_of
+  refuses-input out p h e = rw (check-refused most_nodes s says e, handed_on p _ h)
 
   module _ {f : Facts} (e : r ≡ Ok f) where
     pub few-nodes : f.nodes ≤ most_nodes
@@ -176,26 +158,27 @@ module _ (n : Notation) (s : List ℕ) {r : Result Facts Refusal} (says : told r
           let t = check-whole most_nodes s says e in
           passed-printable s t.let_through bytes (facts_style t.same)
 
-      pub printed-checked : {out : List ℕ} {p : Printed} {after : List ℕ}
+      pub printed-checked : {out : List ℕ} {p : Result ℕ Refusal} {after : List ℕ}
           → Prints (style_by n f.depth) (f.nodes * 20) s out p after
-          → (printed_told p, after) ≡ print_of (notation_of n) s out
+          → (told p, after) ≡ print_of (notation_of n) s out
       printed-checked print =
           let t = check-whole most_nodes s says e in
           printed-passed s t.let_through bytes (facts_style t.same) print
 
 -- after the walk that knows a term
-module _ (n : Notation) (s : List ℕ) {r : Gauge} (says : GaugesWhole n s r) {most plenty : ℕ}
-    (e : r ≡ gauge.Term most plenty) (bytes : AllBytes s) where
-  gauged-style : (w : GaugedWhole n s most plenty) → StyleOf (style_by n most) plenty w.term
+module _ (n : Notation) (s : List ℕ) {r : Option Gauge} (says : GaugesWhole n s r) {g : Gauge} (e : r ≡ Some g)
+    (bytes : AllBytes s) where
+  gauged-style : (w : GaugedWhole n s g.most g.plenty) → StyleOf (style_by n g.most) g.plenty w.term
   gauged-style w = record { deep = w.deep; short = w.short }
 
-  pub gauged-printable : Printable (style_by n most) plenty s
+  pub gauged-printable : Printable (style_by n g.most) g.plenty s
   gauged-printable =
       let w = says.whole e in
       passed-printable s w.passes bytes (gauged-style w)
 
-  pub printed-gauged : {out : List ℕ} {p : Printed} {after : List ℕ} → Prints (style_by n most) plenty s out p after
-      → (printed_told p, after) ≡ print_of (notation_of n) s out
+  pub printed-gauged : {out : List ℕ} {p : Result ℕ Refusal} {after : List ℕ}
+      → Prints (style_by n g.most) g.plenty s out p after
+      → (told p, after) ≡ print_of (notation_of n) s out
   printed-gauged print =
       let w = says.whole e in
       printed-passed s w.passes bytes (gauged-style w) print

@@ -1,7 +1,6 @@
 -- What the code of this crate writes and answers, by the definitions of `calculus`.
 pub mod Pieces
 pub mod Parts
-pub mod Answers
 pub mod Printing
 pub mod Writers
 pub mod Gauges

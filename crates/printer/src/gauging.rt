@@ -4,10 +4,10 @@ ghost use Rattle.calculus.specs.Writing.{index_text, name_text, gap_text};
 ghost use Rattle.term.specs.Notations.{notation_of};
 ghost use Rattle.printer.specs.Gauges.{VariableRoom, BinderRoom, Gaugeable, Gauges, GaugesWhole};
 
+use crate::Part;
 use crate::pieces::figures_needed;
-use crate::{Part, groups_abstraction, groups_application};
 use calculus::{MOST_HEIGHT, MOST_NODES, OUTPUT_PER_NODE};
-use term::{Head, Notation, larger};
+use term::{Head, Notation};
 
 // THE PIECES, each in at least as many bytes as it takes.
 fn index_room(index: u64) -> usize
@@ -73,8 +73,16 @@ fn pair_room(grouped: bool) -> usize
     if grouped { 2 } else { 0 }
 }
 
-// THE WALK from an offset where nothing need be a term: it tells the offset after the term there, or 0, and adds the
-// term to what was counted. It goes on as `write_part` does, but the room falls at every node: the height is bounded.
+// What a walk counts: the nodes, the most abstractions on a path, and room enough for the text.
+#[derive(Clone, Copy, Debug, PartialEq, Eq)]
+struct Counts {
+    nodes: u64,
+    most: u64,
+    text: usize,
+}
+
+// THE WALK from an offset where nothing need be a term: it tells the offset after the term there, if there is one, and
+// adds the term to the counts. It goes on as `write_part` does, but the room falls at every node: the height is bounded.
 fn gauge_part(
     notation: Notation,
     s: &[u8],
@@ -82,86 +90,63 @@ fn gauge_part(
     mut depth: u64,
     mut part: Part,
     mut room: u64,
-    nodes: &mut u64,
-    most: &mut u64,
-    text: &mut usize,
-) -> usize
-    requires { Gaugeable s.now at depth room nodes.old text.old }
-    ensures { Gauges notation s.now at depth part room
-        nodes.old most.old text.old
-        result nodes.new most.new text.new }
+    counts: &mut Counts,
+) -> Option<usize>
+    requires { Gaugeable s.now at depth room counts.old }
+    ensures { Gauges notation s.now at depth part room counts.old result counts.new }
 {
     loop {
         if room == 0 {
-            return 0;
+            return None;
         }
         room -= 1;
-        *nodes += 1;
-        let Some(head) = term::head_at(s, at) else {
-            return 0;
-        };
-        match head {
+        counts.nodes += 1;
+        match term::head_at(s, at)? {
             Head::Variable(index) => {
-                *most = larger(*most, depth);
-                *text += variable_room(notation, depth, index);
-                return at + 9;
+                counts.most = counts.most.max(depth);
+                counts.text += variable_room(notation, depth, index);
+                return Some(at + 9);
             }
             Head::Abstraction => {
-                *text += pair_room(groups_abstraction(part)) + binder_room(notation, depth);
+                counts.text += pair_room(part.groups_abstraction()) + binder_room(notation, depth);
                 at += 1;
                 depth += 1;
                 part = Part::Whole;
             }
             Head::Application => {
-                *text += pair_room(groups_application(part)) + gap_room(notation);
-                at += 1;
-                at = gauge_part(notation, s, at, depth, Part::Left, room, nodes, most, text);
-                if at == 0 {
-                    return 0;
-                }
+                counts.text += pair_room(part.groups_application()) + gap_room(notation);
+                at = gauge_part(notation, s, at + 1, depth, Part::Left, room, counts)?;
                 part = Part::Right;
             }
         }
     }
 }
 
-// A whole term within the bounds, with its most abstractions on a path and room enough for its text; or nothing known.
-#[derive(Clone, Copy)]
-pub(crate) enum Gauge {
-    Term { most: u64, plenty: usize },
-    Unknown,
+// What one walk knows of a whole term within the bounds: its most abstractions on a path and room enough for its text.
+#[derive(Clone, Copy, Debug, PartialEq, Eq)]
+pub(crate) struct Gauge {
+    pub most: u64,
+    pub plenty: usize,
 }
 
-pub(crate) fn gauge_whole(notation: Notation, s: &[u8]) -> Gauge
+pub(crate) fn gauge_whole(notation: Notation, s: &[u8]) -> Option<Gauge>
     ensures { GaugesWhole notation s.now result }
 {
     // what is longer has too many nodes, or is no term
     if OUTPUT_PER_NODE * (MOST_NODES as usize) < s.len() {
-        return Gauge::Unknown;
+        return None;
     }
-    let mut nodes: u64 = 0;
-    let mut most: u64 = 0;
-    let mut plenty: usize = 0;
-    let end = gauge_part(
-        notation,
-        s,
-        0,
-        0,
-        Part::Whole,
-        MOST_HEIGHT,
-        &mut nodes,
-        &mut most,
-        &mut plenty,
-    );
-    if end == 0 {
-        return Gauge::Unknown;
+    let mut counts = Counts {
+        nodes: 0,
+        most: 0,
+        text: 0,
+    };
+    let end = gauge_part(notation, s, 0, 0, Part::Whole, MOST_HEIGHT, &mut counts)?;
+    if end < s.len() || MOST_NODES < counts.nodes {
+        return None;
     }
-    if end < s.len() {
-        return Gauge::Unknown;
-    }
-    if nodes <= MOST_NODES {
-        Gauge::Term { most, plenty }
-    } else {
-        Gauge::Unknown
-    }
+    Some(Gauge {
+        most: counts.most,
+        plenty: counts.text,
+    })
 }

@@ -9,9 +9,9 @@ mod writer;
 ghost use Rattle.std.specs.Prelude.{◌≡◌};
 ghost use Rattle.calculus.specs.Bounds.{most_height};
 ghost use Rattle.calculus.specs.Outcomes.{print_of};
+ghost use Rattle.term.specs.Answers.{told};
 ghost use Rattle.term.specs.Notations.{notation_of};
 ghost use Rattle.printer.specs.Parts.{groups_lam, groups_app, Writable, Writes};
-ghost use Rattle.printer.specs.Answers.{printed_told};
 ghost use Rattle.printer.specs.Printing.{Printable, Measures, Fitting, Prints};
 ghost use Rattle.printer.specs.Writers.{WritesWhole};
 ghost use Rattle.printer.specs.declared.Part.TheVariants.{Whole};
@@ -22,36 +22,30 @@ use pieces::Style;
 use term::{Head, Notation, Refusal};
 
 // Which part of an application a term is, or none.
-#[derive(Clone, Copy)]
+#[derive(Clone, Copy, Debug, PartialEq, Eq)]
 enum Part {
     Whole,
     Left,
     Right,
 }
 
-// Whether an abstraction, and whether an application, stands in parentheses.
-fn groups_abstraction(part: Part) -> bool
-    ensures { result ≡ groups_lam part }
-{
-    match part {
-        Part::Whole => false,
-        Part::Left => true,
-        Part::Right => true,
+impl Part {
+    // Whether an abstraction, and whether an application, stands in parentheses.
+    fn groups_abstraction(self) -> bool
+        ensures { result ≡ groups_lam self }
+    {
+        matches!(self, Part::Left | Part::Right)
     }
-}
 
-fn groups_application(part: Part) -> bool
-    ensures { result ≡ groups_app part }
-{
-    match part {
-        Part::Whole => false,
-        Part::Left => false,
-        Part::Right => true,
+    fn groups_application(self) -> bool
+        ensures { result ≡ groups_app self }
+    {
+        matches!(self, Part::Right)
     }
 }
 
 // The offset after a term that was read, and the place after its text.
-#[derive(Clone, Copy)]
+#[derive(Clone, Copy, Debug, PartialEq, Eq)]
 struct Reached {
     next: usize,
     to: usize,
@@ -83,7 +77,7 @@ fn write_part(
                 return Reached { next: at + 9, to };
             }
             Head::Abstraction => {
-                let opened = putting::put_if(out, to, groups_abstraction(part), b'(');
+                let opened = putting::put_if(out, to, part.groups_abstraction(), b'(');
                 closes += opened - to;
                 to = pieces::put_binder(out, opened, style, depth);
                 depth += 1;
@@ -91,7 +85,7 @@ fn write_part(
                 at += 1;
             }
             Head::Application => {
-                let opened = putting::put_if(out, to, groups_application(part), b'(');
+                let opened = putting::put_if(out, to, part.groups_application(), b'(');
                 closes += opened - to;
                 let left = write_part(out, opened, style, s, at + 1, depth, Part::Left, room - 1);
                 to = pieces::put_gap(out, left.to, style);
@@ -120,75 +114,52 @@ fn text_length(style: Style, s: &[u8]) -> usize
     writer::write(&mut nothing, style, s)
 }
 
-// Whether a text fits, or its length.
-#[derive(Clone, Copy)]
-enum Fit {
-    Fits,
-    Needs(usize),
-}
-
-// Where there is plenty of room the text need not be measured.
+// Whether a text fits, or the length needed. Where there is plenty of room the text need not be measured.
 #[tactic(auto, using(crate::proofs::Printing::measured_length))]
-fn judge_length(style: Style, plenty: usize, s: &[u8], room: usize) -> Fit
+fn ensure_fits(style: Style, plenty: usize, s: &[u8], room: usize) -> Result<(), Refusal>
     requires { Printable style plenty s.now }
     ensures { Fitting style plenty s.now room result }
 {
     if plenty <= room {
-        return Fit::Fits;
+        return Ok(());
     }
     let needed = text_length(style, s);
     if needed <= room {
-        Fit::Fits
+        Ok(())
     } else {
-        Fit::Needs(needed)
+        Err(Refusal::OutputTooShort(needed))
     }
-}
-
-// What printing answers: the length of the text, or a refusal.
-#[derive(Clone, Copy)]
-pub enum Printed {
-    Length(usize),
-    Refused(Refusal),
 }
 
 // A whole term, for whose text so much room is plenty.
-fn print_whole(style: Style, plenty: usize, s: &[u8], out: &mut [u8]) -> Printed
+fn print_whole(style: Style, plenty: usize, s: &[u8], out: &mut [u8]) -> Result<usize, Refusal>
     requires { Printable style plenty s.now }
     ensures { Prints style plenty s.now out.old result out.new }
 {
-    match judge_length(style, plenty, s, out.len()) {
-        Fit::Needs(length) => Printed::Refused(Refusal::OutputTooShort(length)),
-        Fit::Fits => {
-            let length = writer::write(out, style, s);
-            Printed::Length(length)
-        }
-    }
+    ensure_fits(style, plenty, s, out.len())?;
+    Ok(writer::write(out, style, s))
 }
 
 // The input's refusals, then 13. A text has at most 20 bytes a node.
-fn print_checked(notation: Notation, s: &[u8], out: &mut [u8]) -> Printed
-    ensures { (printed_told result, out.new)
+fn print_checked(notation: Notation, s: &[u8], out: &mut [u8]) -> Result<usize, Refusal>
+    ensures { (told result, out.new)
         ≡ print_of (notation_of notation) s.now out.old }
 {
-    match term::check(MOST_NODES, s) {
-        Err(why) => Printed::Refused(why),
-        Ok(facts) => {
-            let style = Style {
-                notation,
-                most: facts.depth,
-            };
-            print_whole(style, (facts.nodes * 20) as usize, s, out)
-        }
-    }
+    let facts = term::check(MOST_NODES, s)?;
+    let style = Style {
+        notation,
+        most: facts.depth,
+    };
+    print_whole(style, (facts.nodes * 20) as usize, s, out)
 }
 
 // One walk knows a whole term, and only where it does not is the input checked for the refusal that holds.
-pub fn print(notation: Notation, s: &[u8], out: &mut [u8]) -> Printed
-    ensures { (printed_told result, out.new)
+pub fn print(notation: Notation, s: &[u8], out: &mut [u8]) -> Result<usize, Refusal>
+    ensures { (told result, out.new)
         ≡ print_of (notation_of notation) s.now out.old }
 {
     match gauging::gauge_whole(notation, s) {
-        Gauge::Term { most, plenty } => print_whole(Style { notation, most }, plenty, s, out),
-        Gauge::Unknown => print_checked(notation, s, out),
+        Some(Gauge { most, plenty }) => print_whole(Style { notation, most }, plenty, s, out),
+        None => print_checked(notation, s, out),
     }
 }

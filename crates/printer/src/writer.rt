@@ -7,35 +7,30 @@ ghost use Rattle.printer.specs.declared.Part.TheVariants.{Whole};
 
 use crate::pieces::Style;
 
-// A function that has a writer is thin: what is done is done on the slice and the place.
+// A method is thin: what is done is done on the slice and the place.
 #[derive(Drop)]
 pub(crate) struct Writer<'a> {
     pub out: &'a mut [u8],
     pub place: usize,
 }
 
-// A writer at the start of a slice.
-fn begin<'a>(out: &'a mut [u8]) -> Writer<'a>
-    ensures same_reference { result.out.ghost_name ≡ out.entry.ghost_name }
-    ensures at_start { (result.out ≡ out.entry) × (result.place ≡ 0) }
-{
-    Writer { out: out, place: 0 }
-}
+impl<'a> Writer<'a> {
+    // A writer at the start of a slice.
+    fn begin(out: &'a mut [u8]) -> Writer<'a>
+        ensures same_reference { result.out.ghost_name ≡ out.entry.ghost_name }
+        ensures at_start { (result.out ≡ out.entry) × (result.place ≡ 0) }
+    {
+        Writer { out, place: 0 }
+    }
 
-// A whole term; the writer goes on behind it.
-fn write_term<'a, 'b>(w: &mut Writer<'a>, style: Style, s: &'b [u8])
-    requires { Writable style s.now 0 0 Whole w.old.place most_height }
-    ensures same_reference { w.new.out.ghost_name ≡ w.old.out.ghost_name }
-    ensures writes { WritesOn style s.now w.old w.new }
-{
-    w.place = crate::write_whole(&mut *w.out, w.place, style, s);
-}
-
-// The place reached. The slice is as it was.
-fn place_of<'a>(w: Writer<'a>) -> usize
-    ensures { (result ≡ w.entry.place) × (w.exit.0.now ≡ w.entry.out.now) }
-{
-    w.place
+    // A whole term; the writer goes on behind it.
+    fn write_term(&mut self, style: Style, s: &[u8])
+        requires { Writable style s.now 0 0 Whole self.old.place most_height }
+        ensures same_reference { self.new.out.ghost_name ≡ self.old.out.ghost_name }
+        ensures writes { WritesOn style s.now self.old self.new }
+    {
+        self.place = crate::write_whole(self.out, self.place, style, s);
+    }
 }
 
 // From a slice to a writer and back: whoever calls this does not meet a writer.
@@ -43,7 +38,7 @@ pub(crate) fn write(out: &mut [u8], style: Style, s: &[u8]) -> usize
     requires { Writable style s.now 0 0 Whole 0 most_height }
     ensures { WritesWhole style s.now out.old 0 result out.new }
 {
-    let mut w = begin(out);
-    write_term(&mut w, style, s);
-    place_of(w)
+    let mut writer = Writer::begin(out);
+    writer.write_term(style, s);
+    writer.place
 }

@@ -53,7 +53,8 @@ pub fn is_supercombinator(s: &[u8]) -> Result<bool, Refusal>
     Ok(!has_free_variables(s)?)
 }
 
-// Where two equal terms at one offset end, or nothing if they differ. Terms that were equal so far end at one offset. The room falls at each call, so that calls nest no deeper than it.
+// Where two equal terms at one offset end, or none if they differ. Terms that were equal so far end at one offset. The
+// room falls at each call, so that calls nest no deeper than it.
 fn same_at(s: &[u8], u: &[u8], at: usize, room: u64) -> Option<usize>
     requires low { Low s.now at room }
     requires begins { Begins u.now at }

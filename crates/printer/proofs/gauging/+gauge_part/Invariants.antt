@@ -7,7 +7,7 @@ decreases-gauge_part l = l.room
 
 abbrev pub invariant-loop-room : goal.invariant-loop-room
 invariant-loop-room l =
-    Onward l.notation l.s l.initial.at l.initial.depth l.initial.part l.initial.room l.initial.nodes l.initial.most l.initial.text l.at l.depth l.part l.room l.nodes l.most l.text
+    Onward l.notation l.s l.initial.at l.initial.depth l.initial.part l.initial.room l.initial.counts l.at l.depth l.part l.room l.counts
 
 abbrev pub decreases-loop-room : goal.decreases-loop-room
 decreases-loop-room l = l.room
