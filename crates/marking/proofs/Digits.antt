@@ -1,89 +1,99 @@
--- The digits that stand at an offset: where they end, and the number that they are.
-use Prim.Native.Nat.{ℕ, suc, ◌+◌, ◌*◌, ◌-◌, ◌^◌, ◌≤◌, ◌<◌}
-use mathlib.Core.Path.{◌≡◌, refl, ap, ◌∙◌}
-use mathlib.Core.Bool.{Bool, true, false}
-use mathlib.Core.List.{List, [], ◌∷◌, map, reverse_aux}
-use mathlib.Core.Option.{some}
+-- The digits that stand first: where they end, and the number that they are.
+use Prim.Native.Nat.{ℕ, zero, suc, ◌+◌, ◌*◌, ◌-◌, ◌^◌, ◌≤◌, ◌<◌}
+use mathlib.Core.Path.{◌≡◌, refl, ap, sym, ◌∙◌}
+use mathlib.Core.Bool.{Bool, true, false, not, cond}
+use mathlib.Core.List.{List, [], ◌∷◌, ◌++◌, map, reverse_aux}
+use mathlib.Core.Option.{some, none}
 use native.Mathlib.Omega.{arith}
-use native.Mathlib.Decide.{dec_lt}
-use native.Mathlib.Numerals.{add-one}
 use native.Mathlib.Nat.{pow-suc, pow-le-pow_right, lt_of_lt_of_le}
-use lib.ListN.{length, take, drop, get_or, drop_of_length-le, length-drop}
-use lib.Seq.{drop-cons, drop-drop, length-take-le, get_or-take, get_or-drop}
-use borrow.Author.Tests.{le-leb}
+use lib.ListN.{length, take, drop, get_or}
+use lib.Seq.{take_all}
+use borrow.Author.Tests.{le-leb, lt-ltb, le-ltb}
+use native.Mathlib.Decide.{dec_lt}
+use Rattle.std.specs.Prelude.{unwrap_or, position}
+use Rattle.std.specs.List.{prefix_len, position_or_len}
+use Rattle.std.proofs.lemmas.List.Sums.{prefix_len-le-length}
+use Rattle.std.proofs.lemmas.List.{take_more}
 use Rattle.calculus.specs.Numbers.{between, from_digits}
 use Rattle.calculus.specs.Words.{start, rest}
 use Rattle.calculus.specs.Classic.{is_figure}
 use Rattle.calculus.specs.Program.{limit_in}
-use Rattle.calculus.proofs.Tests.{is_false, Interval, inside, outside, interval, in_interval}
+use Rattle.calculus.proofs.Tests.{is_false, in_interval}
 use Rattle.calculus.proofs.Moves.{start-stops, start-goes}
-use Rattle.marking.specs.Asking.{digits_at, Digits}
 
--- the test of an interval, by its bounds
-pub not-between : (low high n : ℕ) → (low ≤ n → high < n) → between low high n ≡ false
-not-between low high n h =
-    is_false (between low high n) (λ e. let (p, q) = in_interval low high n e in omega (arith, h p))
+one_more : (n : ℕ) → 1 + n ≡ suc n
+one_more n = omega arith
 
-is-between : (low high n : ℕ) → low ≤ n → n ≤ high → between low high n ≡ true
-is-between low high n p q = rw (le-leb low n p, le-leb n high q)
-
--- WHERE DIGITS END
-pub record DigitAt (s : List ℕ) (at : ℕ) : Type 0 where
-  pub stands : at < length s
-  pub low : 48 ≤ get_or s at 0
-  pub high : get_or s at 0 ≤ 57
-
-pub a_digit : {s : List ℕ} {at : ℕ} → DigitAt s at → digits_at s at ≡ get_or s at 0 ∷ digits_at s (at + 1)
-a_digit {s} {at} digit =
-    rw (drop-cons s at 0 digit.stands, add-one)
-    (start-goes is_figure _ _ (is-between 48 57 (get_or s at 0) digit.low digit.high))
-
-pub a_figure : (s : List ℕ) (at : ℕ) → at < length s → is_figure (get_or s at 0) ≡ true
-    → length (digits_at s at) ≡ length (digits_at s (at + 1)) + 1
-a_figure s at h e =
-    let first : digits_at s at ≡ get_or s at 0 ∷ digits_at s (at + 1) =
-    rw (drop-cons s at 0 h, add-one) (start-goes is_figure _ _ e) in
-    omega (arith, ap length first)
-
-pub no_figure : (s : List ℕ) (at : ℕ) → at < length s → is_figure (get_or s at 0) ≡ false
-    → length (digits_at s at) ≡ 0
-no_figure s at h e = rw (drop-cons s at 0 h, start-stops is_figure (get_or s at 0) (drop (suc at) s) e)
-
-module _ (s : List ℕ) (at : ℕ) where
-  pub digits-over : length s ≤ at → length (digits_at s at) ≡ 0
+-- WHERE THEY END
+module _ (test : ℕ → Bool) where
+  starts : (s : List ℕ) → start test s ≡ take (position_or_len (λ b. not (test b)) s) s
   unfolding start
-  digits-over h = rw (drop_of_length-le s h)
-
-  pub no_digit : at < length s → (48 ≤ get_or s at 0 → 57 < get_or s at 0) → length (digits_at s at) ≡ 0
-  no_digit h other = rw (drop-cons s at 0 h, start-stops is_figure _ _ (not-between 48 57 (get_or s at 0) other))
-
-  -- where some are left
-  digit-here : 0 < length (digits_at s at) → DigitAt s at
-  digit-here left =
-      elim (dec_lt at (length s)) [
-        | yes h ↦ by_test h (interval 48 57 (get_or s at 0))
-        | no h ↦ absurd (omega (arith, digits-over (omega arith)))
+  starts [] = refl
+  starts (c ∷ cs) =
+      elim (test c)
+      as (λ b.
+      elim b [ true ↦ c ∷ start test cs | false ↦ [] ]
+      ≡ take {A = ℕ} (cond (not (not b)) (1 + prefix_len (λ x. not (not (test x))) cs) 0) (c ∷ cs)) [
+        | true ↦ rw (one_more (prefix_len (λ x. not (not (test x))) cs)) (ap (λ xs. c ∷ xs) (starts cs))
+        | false ↦ refl
       ]
+
+  ends : (s : List ℕ) → rest test s ≡ drop (position_or_len (λ b. not (test b)) s) s
+  unfolding rest
+  ends [] = refl
+  ends (c ∷ cs) =
+      elim (test c)
+      as (λ b.
+      elim b [ true ↦ rest test cs | false ↦ c ∷ cs ]
+      ≡ drop {A = ℕ} (cond (not (not b)) (1 + prefix_len (λ x. not (not (test x))) cs) 0) (c ∷ cs)) [
+        | true ↦ rw (one_more (prefix_len (λ x. not (not (test x))) cs)) (ends cs)
+        | false ↦ refl
+      ]
+
+  -- they are all of what stands before
+  pub start_again : (s : List ℕ) → start test (start test s) ≡ start test s
+  unfolding start
+  start_again [] = refl
+  start_again (c ∷ cs) = by_test (test c) refl (start_again cs)
     where
-      by_test : at < length s → {b : Bool} → Interval 48 57 (get_or s at 0) b → DigitAt s at
-      by_test h (inside low high) = record { stands = h; low = low; high = high }
-      by_test h (outside other) = absurd (omega (arith, no_digit h other))
+      by_test : (b : Bool) → test c ≡ b → start test (start test cs) ≡ start test cs
+          → start test (elim b [ true ↦ c ∷ start test cs | false ↦ [] ]) ≡ elim b [ true ↦ c ∷ start test cs | false ↦ [] ]
+      by_test true t e = start-goes test c (start test cs) t ∙ ap (λ xs. c ∷ xs) e
+      by_test false t e = refl
 
-rest_drops : (test : ℕ → Bool) (cs : List ℕ) → rest test cs ≡ drop (length (start test cs)) cs
-unfolding start rest
-rest_drops test [] = refl
-rest_drops test (c ∷ cs) =
-    elim (test c)
-    as (λ b.
-    elim b [ true ↦ rest test cs | false ↦ c ∷ cs ]
-    ≡ drop (length {A = ℕ} (elim b [ true ↦ c ∷ start test cs | false ↦ [] ])) (c ∷ cs)) [
-      | true ↦ rest_drops test cs
-      | false ↦ refl
-    ]
+  one_passes : (c : ℕ) (cs : List ℕ) → start test (c ∷ cs) ≡ c ∷ cs → (test c ≡ true) × (start test cs ≡ cs)
+  one_passes c cs e = by_test (test c) refl
+    where
+      by_test : (b : Bool) → test c ≡ b → (test c ≡ true) × (start test cs ≡ cs)
+      by_test true t =
+          let same : ◌≡◌ {A = List ℕ} (c ∷ start test cs) (c ∷ cs) = sym (start-goes test c cs t) ∙ e in (t, cc)
+      by_test false t =
+          let never : ◌≡◌ {A = List ℕ} [] (c ∷ cs) = sym (start-stops test c cs t) ∙ e in
+          absurd (omega (arith, ap length never))
 
-pub after-digits : (s : List ℕ) (from end : ℕ) → end ≡ from + length (digits_at s from)
-    → rest is_figure (drop from s) ≡ drop end s
-after-digits s from end e = rest_drops is_figure (drop from s) ∙ rw (drop-drop, e)
+  pub each_passes : (s : List ℕ) → start test s ≡ s → (i : ℕ) → i < length s → test (get_or s i 0) ≡ true
+  each_passes [] e i h = absurd (omega arith)
+  each_passes (c ∷ cs) e zero h = (one_passes c cs e).0
+  each_passes (c ∷ cs) e (suc i) h = each_passes cs (one_passes c cs e).1 i (omega arith)
+
+  -- as the slice's own search answers it
+  abbrev place : List ℕ → ℕ
+  place s = unwrap_or (position (λ b. not (test b)) s) (length s)
+
+  place_is : (s : List ℕ) → place s ≡ position_or_len (λ b. not (test b)) s
+  place_is s =
+      let n : ℕ = position_or_len (λ b. not (test b)) s in
+      let few : n ≤ length s = prefix_len-le-length (λ x. not (not (test x))) s in
+      elim (dec_lt n (length s)) [
+        | yes h ↦ rw (lt-ltb n (length s) h) refl
+        | no h ↦ rw (le-ltb n (length s) (omega arith)) (omega arith)
+      ]
+
+  pub start_taken : (s : List ℕ) → take (place s) s ≡ start test s
+  start_taken s = ap (λ n. take n s) (place_is s) ∙ sym (starts s)
+
+  pub rest_left : (s : List ℕ) → drop (place s) s ≡ rest test s
+  rest_left s = ap (λ n. drop n s) (place_is s) ∙ sym (ends s)
 
 -- THE NUMBER: digits read on from the value of those before
 pub read_on : ℕ → List ℕ → ℕ
@@ -96,85 +106,55 @@ unfolding from_digits read_on
 read-digits before [] = refl
 read-digits before (c ∷ cs) = read-digits ((c - 48) ∷ before) cs ∙ ap (λ v. read_on v cs) (omega arith)
 
-read_none : (v : ℕ) (cs : List ℕ) → length cs ≡ 0 → read_on v cs ≡ v
+read-more : (v : ℕ) (cs : List ℕ) (d : ℕ) → read_on v (cs ++ (d ∷ [])) ≡ read_on v cs * 10 + (d - 48)
 unfolding read_on
-read_none v [] e = refl
-read_none v (c ∷ cs) e = absurd (omega arith)
+read-more v [] d = refl
+read-more v (c ∷ cs) d = read-more (v * 10 + (c - 48)) cs d
 
--- the digits from one offset to another, of which those before a third have been read
-pub record SoFar (s : List ℕ) (from end at value : ℕ) : Type 0 where
-  pub forward : from ≤ at
-  pub left : end ≡ at + length (digits_at s at)
-  pub small : value < 10 ^ (at - from)
-  pub read : read_on 0 (digits_at s from) ≡ read_on value (digits_at s at)
+-- so many of the digits have been read
+pub record ReadSoFar (digits : List ℕ) (i value : ℕ) : Type 0 where
+  pub read : value ≡ read_on 0 (take i digits)
+  pub small : value < 10 ^ i
 
-module _ {s : List ℕ} {from end : ℕ} (digits : Digits s from end) where
-  pub none_read : SoFar s from end from 0
-  none_read =
-      let same : from - from ≡ 0 = omega arith in
-      record { forward = omega arith; left = digits.all; small = rw same (omega arith); read = refl }
+module _ (digits : List ℕ) where
+  pub none_read : ReadSoFar digits 0 0
+  unfolding read_on
+  none_read = record { read = refl; small = omega arith }
 
-  module _ {at value : ℕ} (so_far : SoFar s from end at value) where
-    pub all_read : end ≤ at → limit_in (digits_at s from) ≡ some value
-    unfolding from_digits
-    all_read h =
-        rw (is-between 1 7 (length (digits_at s from)) (omega arith) (omega arith))
-        (ap some
-        (read-digits [] (digits_at s from) ∙ so_far.read ∙ read_none value (digits_at s at) (omega arith)))
+  pub a_figure : start is_figure digits ≡ digits → (i : ℕ) → i < length digits
+      → (48 ≤ get_or digits i 0) × (get_or digits i 0 ≤ 57)
+  a_figure all i h = in_interval 48 57 (get_or digits i 0) (each_passes is_figure digits all i h)
 
-    pub next-digit : at < end → DigitAt s at × (value < 10 ^ 7)
-    next-digit h =
-        let passed : at - from ≤ 7 = omega arith in
-        (digit-here s at (omega arith), lt_of_lt_of_le so_far.small (pow-le-pow_right (omega arith) passed))
+  pub one_read : start is_figure digits ≡ digits → {i value : ℕ} → i < length digits → ReadSoFar digits i value
+      → ReadSoFar digits (i + 1) (value * 10 + (get_or digits i 0 - 48))
+  one_read all {i} {value} h so_far =
+      let (low, high) = a_figure all i h in
+      let next : i + 1 ≡ suc i = omega arith in
+      record {
+        read =
+            rw (take_more digits i 0 h)
+            (ap (λ v. v * 10 + (get_or digits i 0 - 48)) so_far.read
+            ∙ sym (read-more 0 (take i digits) (get_or digits i 0)));
+        small = rw (next, pow-suc) (omega (arith, so_far.small));
+      }
 
-    pub one_read : at < end → SoFar s from end (at + 1) (value * 10 + (get_or s at 0 - 48))
-    unfolding read_on
-    one_read h =
-        let digit = (next-digit h).0 in
-        let passed : at + 1 - from ≡ suc (at - from) = omega arith in
-        record {
-          forward = omega arith;
-          left = omega (arith, ap length (a_digit digit));
-          small = rw (passed, pow-suc) (omega arith);
-          read = so_far.read ∙ ap (read_on value) (a_digit digit);
-        }
+  pub still_small : {i value : ℕ} → length digits ≤ 7 → i < length digits → ReadSoFar digits i value → value < 10 ^ 7
+  still_small {i} few h so_far =
+      let short : i ≤ 7 = omega arith in lt_of_lt_of_le so_far.small (pow-le-pow_right (omega arith) short)
 
--- digits stand within the input, and are the bytes of the slice between the offsets
-start_short : (test : ℕ → Bool) (cs : List ℕ) → length (start test cs) ≤ length cs
-unfolding start
-start_short test [] = omega arith
-start_short test (c ∷ cs) =
-    elim (test c) as (λ b. length {A = ℕ} (elim b [ true ↦ c ∷ start test cs | false ↦ [] ]) ≤ suc (length cs)) [
-      | true ↦ omega (arith, start_short test cs)
-      | false ↦ omega arith
-    ]
+  pub all_read : {i value : ℕ} → 1 ≤ length digits → length digits ≤ 7 → length digits ≤ i → ReadSoFar digits i value
+      → limit_in digits ≡ some value
+  unfolding from_digits
+  all_read {i} {value} any few h so_far =
+      rw (le-leb 1 (length digits) any, le-leb (length digits) 7 few)
+      (ap some
+      (read-digits [] digits ∙ sym (so_far.read ∙ ap (read_on 0) (take_all i digits h))))
 
-module _ {s : List ℕ} {from end : ℕ} (digits : Digits s from end) where
-  pub digits-inside : end ≤ length s
-  digits-inside =
-      omega (arith, digits.all, digits.any, start_short is_figure (drop from s), length-drop from s)
+  pub no_limit : (1 ≤ length digits → 7 < length digits) → limit_in digits ≡ none
+  no_limit h =
+      let wrong : between 1 7 (length digits) ≡ false =
+      is_false (between 1 7 (length digits))
+      (λ e. let (p, q) = in_interval 1 7 (length digits) e in omega (arith, h p)) in
+      rw wrong refl
 
-  pub slice-length : length (take (end - from) (drop from s)) ≡ end - from
-  slice-length = length-take-le (end - from) (drop from s) (omega (arith, digits-inside, length-drop from s))
-
-  between-offsets : (i : ℕ) → i < length (take (end - from) (drop from s))
-      → (from + i < end) × (get_or (take (end - from) (drop from s)) i 0 ≡ get_or s (from + i) 0)
-  between-offsets i h =
-      let below : i < end - from = omega (arith, slice-length) in
-      (omega arith, get_or-take (end - from) (drop from s) i 0 below ∙ get_or-drop from s i 0)
-
-  module _ {i value : ℕ} (so_far : SoFar s from end (from + i) value)
-      (h : i < length (take (end - from) (drop from s))) where
-    pub slice-digit : (48 ≤ get_or (take (end - from) (drop from s)) i 0)
-        × (get_or (take (end - from) (drop from s)) i 0 ≤ 57) × (value < 10 ^ 7)
-    slice-digit =
-        let (below, same) = between-offsets i h in
-        let (digit, small) = next-digit digits so_far below in
-        rw same (digit.low, digit.high, small)
-
-    pub slice-read : {d : ℕ} → d ≡ get_or (take (end - from) (drop from s)) i 0 - 48
-        → SoFar s from end (from + (i + 1)) (value * 10 + d)
-    slice-read e =
-        let (below, same) = between-offsets i h in
-        let one : from + (i + 1) ≡ from + i + 1 = omega arith in
-        rw (one, e, same) (one_read digits so_far below)
+pub ruleset reading = (a_figure, one_read, still_small, all_read, no_limit)

@@ -1,5 +1,5 @@
 -- The laws by which the program's work is proved, and that its statement allows one outcome.
-pub mod Standing
+pub mod Naming
 pub mod Digits
 pub mod FirstLine
 pub mod Decimals

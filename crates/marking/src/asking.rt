@@ -1,154 +1,127 @@
 // The first line of the program's input: an order, a limit and a notation.
-ghost use Rattle.std.specs.Prelude.{◌≡◌, ◌+◌, cond, length};
-ghost use Rattle.std.proofs.Math.Option.{some};
-ghost use Rattle.calculus.specs.Program.{first_line, look_up, order_words, notation_words, limit_in};
-ghost use Rattle.calculus.specs.Characters.{same_text};
+ghost use Rattle.std.specs.Prelude.{◌≡◌, not, take, drop, position};
+ghost use Rattle.calculus.specs.Program.{first_line, look_up, order_words, notation_words, limit_in, past};
+ghost use Rattle.calculus.specs.Words.{start, rest};
+ghost use Rattle.calculus.specs.Classic.{is_figure};
 ghost use Rattle.orders.specs.Orders.{order_of};
-ghost use Rattle.marking.specs.Asking.{asked_told, text_within, order_named, notation_named};
-ghost use Rattle.marking.specs.Asking.{word_at, digits_at, Digits, ByteAt};
+ghost use Rattle.term.specs.Notations.{notation_of};
+ghost use Rattle.marking.specs.Asking.{said, job_of};
 
 use orders::Order;
 use term::Notation;
 
-// What the line asks for, and where the text after it begins.
-#[derive(Clone, Copy)]
-pub(crate) enum Asked {
-    Job {
-        order: Order,
-        limit: u64,
-        notation: Notation,
-        text: usize,
-    },
-    Malformed,
+// What the line asks for, and the text after it.
+#[derive(Clone, Copy, Debug, PartialEq, Eq)]
+pub(crate) struct Job<'a> {
+    pub(crate) order: Order,
+    pub(crate) limit: u64,
+    pub(crate) notation: Notation,
+    pub(crate) text: &'a [u8],
 }
 
 // The order, and the notation, that a word names.
-#[derive(Clone, Copy)]
-enum NamedOrder {
-    Known(Order),
-    Unknown,
-}
-
-#[derive(Clone, Copy)]
-enum NamedNotation {
-    Known(Notation),
-    Unknown,
-}
-
-// Whether the word stands at an offset. A reference to an array does not tell its length, so the contract asks for it.
-fn stands(s: &[u8], at: usize, word: &[u8; 3]) -> bool
-    requires { length word.now ≡ 3 }
-    ensures { result ≡ same_text (word_at s.now at) word.now }
+#[tactic(auto, using(crate::proofs::Naming::unnamed), unfolding(calculus::specs::Program::look_up, calculus::specs::Program::order_words))]
+fn named_order(word: &[u8]) -> Option<Order>
+    ensures { said order_of result ≡ look_up order_words word.now }
 {
-    at <= s.len() && s[at..].starts_with(word)
-}
-
-// The order, if its word stands at an offset, and else what another word named.
-fn order_or(s: &[u8], at: usize, word: &[u8; 3], order: Order, other: NamedOrder) -> NamedOrder
-    requires { length word.now ≡ 3 }
-    ensures { order_named result
-        ≡ cond (same_text (word_at s.now at) word.now) (some (order_of order))
-        (order_named other) }
-{
-    if stands(s, at, word) {
-        NamedOrder::Known(order)
-    } else {
-        other
+    if word == b"CBN".as_slice() {
+        return Some(Order::CBN);
     }
-}
-
-// The order whose word stands at an offset. The table is tried from its end, so that an earlier word comes first.
-fn order_at(s: &[u8], at: usize) -> NamedOrder
-    ensures { order_named result ≡ look_up order_words (word_at s.now at) }
-{
-    let hap = order_or(s, at, b"HAP", Order::HAP, NamedOrder::Unknown);
-    let hno = order_or(s, at, b"HNO", Order::HNO, hap);
-    let nor = order_or(s, at, b"NOR", Order::NOR, hno);
-    let app = order_or(s, at, b"APP", Order::APP, nor);
-    let cbv = order_or(s, at, b"CBV", Order::CBV, app);
-    let hsp = order_or(s, at, b"HSP", Order::HSP, cbv);
-    order_or(s, at, b"CBN", Order::CBN, hsp)
-}
-
-// The notation whose word stands at an offset.
-fn notation_at(s: &[u8], at: usize) -> NamedNotation
-    ensures { notation_named result ≡ look_up notation_words (word_at s.now at) }
-{
-    if stands(s, at, b"dbr") {
-        return NamedNotation::Known(Notation::DeBruijn);
+    if word == b"HSP".as_slice() {
+        return Some(Order::HSP);
     }
-    if stands(s, at, b"cla") {
-        return NamedNotation::Known(Notation::Classic);
+    if word == b"CBV".as_slice() {
+        return Some(Order::CBV);
     }
-    NamedNotation::Unknown
+    if word == b"APP".as_slice() {
+        return Some(Order::APP);
+    }
+    if word == b"NOR".as_slice() {
+        return Some(Order::NOR);
+    }
+    if word == b"HNO".as_slice() {
+        return Some(Order::HNO);
+    }
+    if word == b"HAP".as_slice() {
+        return Some(Order::HAP);
+    }
+    None
 }
 
-// Whether the byte stands at an offset.
-fn byte_at(s: &[u8], at: usize, b: u8) -> bool
-    ensures { ByteAt b s.now at result }
+#[tactic(auto, using(crate::proofs::Naming::unnamed), unfolding(calculus::specs::Program::look_up, calculus::specs::Program::notation_words))]
+fn named_notation(word: &[u8]) -> Option<Notation>
+    ensures { said notation_of result ≡ look_up notation_words word.now }
 {
-    s.get(at) == Some(&b)
+    if word == b"dbr".as_slice() {
+        return Some(Notation::DeBruijn);
+    }
+    if word == b"cla".as_slice() {
+        return Some(Notation::Classic);
+    }
+    None
 }
 
-// Where the digits end that stand at an offset.
-fn digits_end(s: &[u8], from: usize) -> usize
-    ensures { result ≡ from + length (digits_at s.now from) }
+// The three letters that stand first, or as many as there are, and what follows them.
+fn split_word(s: &[u8]) -> (&[u8], &[u8])
+    ensures word { result.0.now ≡ take 3 s.now }
+    ensures after { result.1.now ≡ drop 3 s.now }
 {
-    for at in from..s.len() {
-        if !s[at].is_ascii_digit() {
-            return at;
-        }
-    }
-    from.max(s.len())
+    s.split_at(s.len().min(3))
+}
+
+// Where the digits end that stand first, if they do before the bytes.
+fn digits_end(s: &[u8]) -> Option<usize>
+    ensures { result ≡ position (λ b. not (is_figure b)) s.now }
+{
+    s.iter().position(|b| !b.is_ascii_digit())
+}
+
+// The digits that stand first, and what follows them.
+fn split_digits(s: &[u8]) -> (&[u8], &[u8])
+    ensures digits { result.0.now ≡ start is_figure s.now }
+    ensures after { result.1.now ≡ rest is_figure s.now }
+{
+    s.split_at(digits_end(s).unwrap_or(s.len()))
 }
 
 // The number of one to seven digits.
-fn number(s: &[u8], from: usize, end: usize) -> u64
-    requires { Digits s.now from end }
-    ensures { limit_in (digits_at s.now from) ≡ some result }
+#[tactic(auto, using(crate::proofs::Digits::reading))]
+fn number(digits: &[u8]) -> Option<u64>
+    requires { start is_figure digits.now ≡ digits.now }
+    ensures { said (λ n. n) result ≡ limit_in digits.now }
 {
+    if !(1..=7).contains(&digits.len()) {
+        return None;
+    }
     let mut value = 0;
-    for &digit in &s[from..end] {
+    for &digit in digits {
         value = value * 10 + u64::from(digit - b'0');
     }
-    value
+    Some(value)
+}
+
+// What follows a byte that must stand first.
+fn past(s: &[u8], b: u8) -> Option<&[u8]>
+    ensures { said (λ after. after.now) result ≡ past b s.now }
+{
+    s.strip_prefix(&[b])
 }
 
 // The parts in a row: the line is malformed if one of them is missing.
-#[tactic(auto, using(crate::proofs::FirstLine::too_many_digits))]
-pub(crate) fn first_line(s: &[u8]) -> Asked
-    ensures result_value { asked_told s.now result ≡ first_line s.now }
-    ensures text_within { text_within s.now result }
+pub(crate) fn first_line(s: &[u8]) -> Option<Job<'_>>
+    ensures { said job_of result ≡ first_line s.now }
 {
-    let NamedOrder::Known(order) = order_at(s, 0) else {
-        return Asked::Malformed;
-    };
-    if !byte_at(s, 3, b' ') {
-        return Asked::Malformed;
-    }
-    let end = digits_end(s, 4);
-    if end == 4 {
-        return Asked::Malformed;
-    }
-    if 11 < end {
-        return Asked::Malformed;
-    }
-    let limit = number(s, 4, end);
-    if !byte_at(s, end, b' ') {
-        return Asked::Malformed;
-    }
-    let letters = end + 1;
-    let NamedNotation::Known(notation) = notation_at(s, letters) else {
-        return Asked::Malformed;
-    };
-    let feed = letters + 3;
-    if !byte_at(s, feed, b'\n') {
-        return Asked::Malformed;
-    }
-    Asked::Job {
+    let (word, after) = split_word(s);
+    let order = named_order(word)?;
+    let (digits, after) = split_digits(past(after, b' ')?);
+    let limit = number(digits)?;
+    let (word, after) = split_word(past(after, b' ')?);
+    let notation = named_notation(word)?;
+    let text = past(after, b'\n')?;
+    Some(Job {
         order,
         limit,
         notation,
-        text: feed + 1,
-    }
+        text,
+    })
 }

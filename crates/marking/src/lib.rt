@@ -7,16 +7,17 @@ mod telling;
 ghost use Rattle.std.specs.Prelude.{◌≤◌, length};
 ghost use Rattle.calculus.specs.Bounds.{program_cap};
 ghost use Rattle.calculus.specs.Outcomes.{reduced};
-ghost use Rattle.calculus.specs.Program.{job, report, done, program_of};
+ghost use Rattle.calculus.specs.Program.{report, done, program_of};
 ghost use Rattle.calculus.proofs.Putting.{Puts};
 ghost use Rattle.term.specs.Notations.{notation_of};
 ghost use Rattle.orders.specs.Orders.{order_of};
 ghost use Rattle.io.specs.Counts.{IsPrefixLen};
 ghost use Rattle.marking.specs.Answers.{Lays};
+ghost use Rattle.marking.specs.Asking.{job_of};
 ghost use Rattle.marking.specs.Working.{most_word, most_line, most_output};
 ghost use Rattle.marking.specs.Working.{Workable, Printable, Reports};
 
-use asking::Asked;
+use asking::Job;
 use nodes::runs::Run;
 use orders::Order;
 use parser::Parsed;
@@ -83,11 +84,16 @@ fn reduce(
 }
 
 // What the first line asks for, of the text after it: 1 for the limit comes before the text is read.
-fn do_job(order: Order, limit: u64, notation: Notation, text: &[u8], out: &mut [u8]) -> usize
+fn do_job(job: Job, out: &mut [u8]) -> usize
     requires { most_output ≤ length out.old }
-    ensures { Puts out.old 0
-        (done (job (order_of order) limit (notation_of notation) text.now)) result out.new }
+    ensures { Puts out.old 0 (done (job_of job.entry)) result out.new }
 {
+    let Job {
+        order,
+        limit,
+        notation,
+        text,
+    } = job;
     if !reduction::reducing::allowed(limit) {
         return put_refusal(out, Refusal::OutsideBounds);
     }
@@ -109,12 +115,7 @@ pub fn mark(input: &[u8], out: &mut [u8; MOST_OUTPUT]) -> usize
         return put_refusal(out, Refusal::TextTooLong);
     }
     match asking::first_line(input) {
-        Asked::Malformed => put_refusal(out, Refusal::OutsideBounds),
-        Asked::Job {
-            order,
-            limit,
-            notation,
-            text,
-        } => do_job(order, limit, notation, &input[text..], out),
+        None => put_refusal(out, Refusal::OutsideBounds),
+        Some(job) => do_job(job, out),
     }
 }

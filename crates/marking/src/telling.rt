@@ -16,6 +16,7 @@ use term::{Notation, Refusal, refusal_number};
 const DIGITS: u64 = 7;
 
 // A number in as many digits as it needs, of at most so many. Each digit but the last is one more call.
+// stays: `Display` writes to a `fmt::Write`, and one over the lent bytes would owe these clauses again, no plainer
 fn put_decimal(out: &mut [u8], to: usize, most: u64, number: u64) -> usize
     requires { to + most ≤ greatest_number }
     ensures { Puts out.old to (numeral 10 most number) result out.new }
@@ -24,10 +25,10 @@ fn put_decimal(out: &mut [u8], to: usize, most: u64, number: u64) -> usize
         return to;
     }
     if number < 10 {
-        return put(out, to, (48 + number) as u8);
+        return put(out, to, b'0' + number as u8);
     }
     let last = put_decimal(out, to, most - 1, number / 10);
-    put(out, last, (48 + number % 10) as u8)
+    put(out, last, b'0' + (number % 10) as u8)
 }
 
 pub(crate) fn put_line(out: &mut [u8], word: &[u8], number: u64) -> usize

@@ -12,12 +12,12 @@ use Rattle.marking.proofs.do_job.Goals as goal
 use Rattle.marking.proofs.do_job.Goals.{Else-not-allowed, In-Length}
 
 -- the limit is within its bounds
-in_bounds : (c : Else-not-allowed) → limit_allowed c.args.limit ≡ true
+in_bounds : (c : Else-not-allowed) → limit_allowed c.args.job.limit ≡ true
 in_bounds c = sym c.allowed.ensures ∙ c.if-not-allowed.false
 
 -- the term that was read
-read : (c : In-Length) → let args = c.args in
-    Read (read_text (notation_of args.notation) program_cap args.text.now) c.in-Length.length
+read : (c : In-Length) → let job = c.args.job in
+    Read (read_text (notation_of job.notation) program_cap job.text.now) c.in-Length.length
     c.parse.new.out
 read c =
     given_at _ _ _ _ (omega arith) (omega arith) c.parse.ensures c.in-Length.is
@@ -33,13 +33,10 @@ slice_bounds-coded-end c = (read (goal.at.slice_bounds-coded-end c).In-Length).a
 pub slice_bounds-reduce-end : goal.slice_bounds-reduce-end
 slice_bounds-reduce-end c = sym (length-take-le _ _ (read (goal.at.slice_bounds-reduce-end c).In-Length).at_start.inside)
 
-pub reduce-requires : goal.reduce-requires
-reduce-requires c =
-    record { allowed = in_bounds (goal.at.reduce-requires c).Else-not-allowed; work = omega arith; output = c.requires }
-
 pub returns-in-Length : goal.returns-in-Length
 returns-in-Length c =
-    text-run _ _ _ _ (in_bounds (goal.at.returns-in-Length c).Else-not-allowed) (read (goal.at.returns-in-Length c).In-Length) c.reduce.ensures
+    let met = goal.at.returns-in-Length c in
+    text-run _ _ _ _ (in_bounds met.Else-not-allowed) (read met.In-Length) c.reduce.ensures
 
 pub returns-in-Refused : goal.returns-in-Refused
 returns-in-Refused c =
