@@ -93,7 +93,13 @@ fn run_all(cap: usize, order: Order, store: &mut [u64], work: &mut Work) -> At
 }
 
 // At most so many steps, of the term that is the last of so many nodes.
-pub fn steps(cap: usize, order: Order, limit: u64, store: &mut [u64], from: usize) -> Result<Reached, Stopped>
+pub fn steps(
+    cap: usize,
+    order: Order,
+    limit: u64,
+    store: &mut [u64],
+    from: usize,
+) -> Result<Reached, Stopped>
     requires { (t : Term) × Steppable t cap store.old from }
     ensures { (t : Term) → Steppable t cap store.old from
         → Steps (order_of order) t limit cap store.old result store.new }

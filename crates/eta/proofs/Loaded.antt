@@ -253,5 +253,4 @@ module _ {s : List ℕ} {at : ℕ} {room : List ℕ} {used : ℕ} {counts : List
                   rw v.same (counts-application l (second.counted v.right (right-stands t st)));
               same = same_then (omega arith) first.same (same_then (omega arith) second.same added.same);
             })
-
-  -- NOTHING is never met where a term stands
+        -- NOTHING is never met where a term stands

@@ -181,5 +181,4 @@ module _ {s : List ℕ} {at : ℕ} {room : List ℕ} {used : ℕ} where
                   omega (arith, ap size v.same, second.passed v.right (right-stands t st));
               same = same_then (omega arith) first.same (same_then (omega arith) second.same same);
             })
-
-  -- NOTHING is never met where a term stands
+        -- NOTHING is never met where a term stands

@@ -49,13 +49,7 @@ fn contract(
 }
 
 // All that comes after 1 and 2: the abstraction's refusals, the argument's, 11, then the contraction.
-fn work(
-    cap: usize,
-    s: &[u8],
-    u: &[u8],
-    out: &mut [u8],
-    store: &mut [u64],
-) -> Result<usize, Refusal>
+fn work(cap: usize, s: &[u8], u: &[u8], out: &mut [u8], store: &mut [u64]) -> Result<usize, Refusal>
     requires { Lent cap out.old store.old }
     ensures { Works (stored (applied cap s.now u.now then coded) out.old)
         store.old (told result) out.new store.new }

@@ -143,8 +143,7 @@ module _ {room : List ℕ} {node depth tall : ℕ} (asked : Measurable room node
       unfolding nodes height
       left_asks =
           let v = parts in
-          let falls = v.left_below in
-          (
+          let falls = v.left_below in (
             falls,
             part_asks v.left v.left_held falls (omega (arith, ap nodes v.same))
                 (omega (arith, ap height v.same)),
@@ -154,8 +153,7 @@ module _ {room : List ℕ} {node depth tall : ℕ} (asked : Measurable room node
       unfolding nodes height
       right_asks =
           let v = parts in
-          let falls = v.right_below in
-          (
+          let falls = v.right_below in (
             falls,
             part_asks v.right v.right_held falls (omega (arith, ap nodes v.same))
                 (omega (arith, ap height v.same)),
@@ -163,43 +161,43 @@ module _ {room : List ℕ} {node depth tall : ℕ} (asked : Measurable room node
 
       module _ {left right : Measured} (first : Measures room m depth tall left)
           (second : Measures room n depth tall right) where
-          left-counted : Counted depth tall parts.left left
-          left-counted = counted parts.left parts.left_held first
+        left-counted : Counted depth tall parts.left left
+        left-counted = counted parts.left parts.left_held first
 
-          right-counted : Counted depth tall parts.right right
-          right-counted = counted parts.right parts.right_held second
+        right-counted : Counted depth tall parts.right right
+        right-counted = counted parts.right parts.right_held second
 
-          pub sums_low : (left.copies + right.copies ≤ 4 * most_nodes) × (max left.height right.height ≤ 2044)
-          unfolding nodes height
-          sums_low =
-              let a = asked.put_term in
-              let x = within depth a parts.left in
-              let y = within depth a parts.right in
-              let p = left-counted.height_is a asked.tall_is in
-              let q = right-counted.height_is a asked.tall_is in (
-                omega (
-                  arith,
-                  left-counted.copies,
-                  right-counted.copies,
-                  x.few,
-                  y.few,
-                  asked.few,
-                  ap nodes parts.same,
-                ),
-                omega (arith, x.low, y.low, asked.deep, asked.low, asked.tall_is, ap height parts.same),
-              )
+        pub sums_low : (left.copies + right.copies ≤ 4 * most_nodes) × (max left.height right.height ≤ 2044)
+        unfolding nodes height
+        sums_low =
+            let a = asked.put_term in
+            let x = within depth a parts.left in
+            let y = within depth a parts.right in
+            let p = left-counted.height_is a asked.tall_is in
+            let q = right-counted.height_is a asked.tall_is in (
+              omega (
+                arith,
+                left-counted.copies,
+                right-counted.copies,
+                x.few,
+                y.few,
+                asked.few,
+                ap nodes parts.same,
+              ),
+              omega (arith, x.low, y.low, asked.deep, asked.low, asked.tall_is, ap height parts.same),
+            )
 
-          pub at_application : {place tallest : ℕ} → place ≡ max left.deepest right.deepest
-              → tallest ≡ max left.height right.height
-              → Measures room node depth tall (record {
-                copies = left.copies + right.copies;
-                deepest = place;
-                height = tallest + 1;
-              })
-          unfolding occurs deepest put height
-          at_application place_is tallest_is =
-              measures (rw parts.same (record {
-                copies = omega (arith, left-counted.copies, right-counted.copies);
-                deepest_at = omega (arith, left-counted.deepest_at, right-counted.deepest_at);
-                height_is = λ a e. omega (arith, left-counted.height_is a e, right-counted.height_is a e);
-              }))
+        pub at_application : {place tallest : ℕ} → place ≡ max left.deepest right.deepest
+            → tallest ≡ max left.height right.height
+            → Measures room node depth tall (record {
+              copies = left.copies + right.copies;
+              deepest = place;
+              height = tallest + 1;
+            })
+        unfolding occurs deepest put height
+        at_application place_is tallest_is =
+            measures (rw parts.same (record {
+              copies = omega (arith, left-counted.copies, right-counted.copies);
+              deepest_at = omega (arith, left-counted.deepest_at, right-counted.deepest_at);
+              height_is = λ a e. omega (arith, left-counted.height_is a e, right-counted.height_is a e);
+            }))

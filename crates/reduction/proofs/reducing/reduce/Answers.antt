@@ -48,7 +48,7 @@ clear-requires c =
     (few, omega arith)
 
 pub returns : goal.returns
-returns c = 
+returns c =
     let in_bounds = sym c.allowed.ensures ∙ c.if-not-allowed.false in
     let a = c.args in
     answered _ _ _ (passes (goal.at.returns c).In_ok-most) (refused_after 0)
