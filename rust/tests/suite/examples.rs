@@ -1,4 +1,4 @@
-//! The examples of document 01 that are marked P, and doc examples of the original crate.
+//! The examples P1 to P16 of docs/RULES.md, and doc examples of the original crate.
 use crate::{classic, de_bruijn, limit};
 use copperjangle::Outcome::{Finished, Unfinished};
 use copperjangle::*;
