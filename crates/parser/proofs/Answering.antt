@@ -5,18 +5,18 @@ use mathlib.Core.Bool.{Bool, true, false}
 use mathlib.Core.List.{List, [], ◌++◌}
 use mathlib.Core.Option.{none}
 use native.Mathlib.Omega.{arith}
-use lib.ListN.{length, take, drop}
+use lib.ListN.{length}
 use borrow.Author.Tests.{le-leb}
 use Rattle.calculus.specs.Term.{Term}
-use Rattle.calculus.specs.Bounds.{most_open, most_text, room_per_node}
+use Rattle.calculus.specs.Bounds.{most_open, most_text}
 use Rattle.calculus.specs.Refusal.{Answer, given, refused, ◌then◌}
 use Rattle.calculus.specs.Characters.{characters}
 use Rattle.calculus.specs.Words.{Word, words}
 use Rattle.calculus.specs.Walk.{walk}
 use Rattle.calculus.specs.Judging.{within}
 use Rattle.calculus.specs.Reading.{Notation, next, characters_of, read_text}
-use Rattle.calculus.specs.Outcomes.{stored, coded, cleared, parse_of}
-use Rattle.term.specs.Answers.{refusal_of}
+use Rattle.calculus.specs.Outcomes.{stored, coded, lent, cap_allowed, suffice, parse_of}
+use Rattle.term.specs.Answers.{refusal_of, told}
 use Rattle.term.specs.declared.Refusal.{Refusal}
 use Rattle.words.specs.Places.{Clean, remains}
 use Rattle.words.specs.Judging.{Judges, is_fine, is_refused}
@@ -24,22 +24,16 @@ use Rattle.words.specs.declared.Cursor.{Cursor}
 use Rattle.words.specs.declared.text.Text.{Text}
 use Rattle.words.specs.Ahead.{words_at}
 use Rattle.words.proofs.Ahead.{ahead-start}
-use Rattle.nodes.specs.Answers.{granted_told, granting}
 use Rattle.nodes.specs.Lending.{Lent}
-use Rattle.nodes.specs.declared.lending.Granted.{Granted}
-use Rattle.nodes.specs.declared.lending.Granted.TheVariants as granted
-use Rattle.nodes.proofs.Granting.{not_granted, Passed, answered}
-use Rattle.parser.specs.Answers.{parsed_told}
+use Rattle.nodes.specs.Working.{Works}
 use Rattle.parser.specs.Opens.{opens}
 use Rattle.parser.specs.States.{State, reading, parsed_on, go, ended}
 use Rattle.parser.specs.Tokens.{words_on, Valid}
 use Rattle.parser.specs.Sequences.{Ready, Ends, Comes, to_its_end, to_a_refusal, Reads}
-use Rattle.parser.specs.Parsing.{Stores, Storable, Saves, Works}
+use Rattle.parser.specs.Parsing.{Stores, Storable, Saves}
 use Rattle.parser.specs.declared.sequences.Went.{Went}
 use Rattle.std.specs.Prelude.{Option, Result, Ok, Err}
 use Rattle.parser.specs.declared.tokens.Binder.{Binder}
-use Rattle.parser.specs.declared.Parsed.{Parsed}
-use Rattle.parser.specs.declared.Parsed.TheVariants.{Refused}
 
 abbrev start : Cursor
 start = record { at = 0; chars = 0 }
@@ -65,8 +59,7 @@ ends_there false ws st = refl
 
 -- a refusal takes the place of all that would follow
 refused-stores : {answer : Answer Term} (e : Refusal) (out : List ℕ) → answer ≡ refused (refusal_of e)
-    → Stores answer out (Refused e) out
-unfolding parsed_told
+    → Stores answer out (Err e) out
 refused-stores e out is = rw is
 
 module _ {n : Notation} {s : List ℕ} {stack : List (Option Binder)} {most : ℕ} {store : List ℕ}
@@ -77,7 +70,8 @@ module _ {n : Notation} {s : List ℕ} {stack : List (Option Binder)} {most : �
   comes_to = reads.comes
 
   pub works_stopped : (e : Refusal) (out : List ℕ) → r ≡ Err e
-      → Works (go [] (words_on n s 0) (reading none) [] then within most) out store (Refused e) out store'
+      → Works (stored (go [] (words_on n s 0) (reading none) [] then within most then coded) out) store
+      (told {A = ℕ} (Err e)) out store'
   works_stopped e out is = record {
     stores = refused-stores e out
         (stopped (rw is at comes_to));
@@ -107,8 +101,8 @@ module _ {n : Notation} {s : List ℕ} {stack : List (Option Binder)} {most : �
       means = ends.reaches.means;
     }
 
-    pub works_on : {out after : List ℕ} {p : Parsed} → Saves store' most went.read out p after
-        → Works (go [] (words_on n s 0) (reading none) [] then within most) out store p after store'
+    pub works_on : {out after : List ℕ} {p : Result ℕ Refusal} → Saves store' most went.read out p after
+        → Works (stored (go [] (words_on n s 0) (reading none) [] then within most then coded) out) store (told p) after store'
     works_on saves =
         let whole : go [] (words_on n s 0) (reading none) [] ≡ parsed_on [] ends.state [] =
         ends.goes false [] ∙ ends_there went.closed (words_on n s went.here.at) ends.state in
@@ -142,12 +136,12 @@ module _ (n : Notation) (s : List ℕ) {text : Text} where
       let same : words (next n) (characters s) ≡ given there.0 = sym (ahead-start n s) ∙ there.1 in
       rw (there.1, characters-clean (is-clean fine), same)
 
-  pub works-text : (most : ℕ) {out store after store' : List ℕ} {p : Parsed} → Judges n s (Ok text)
-      → Works (go [] (words_on n text.bytes.now 0) (reading none) [] then within most) out store p after store'
-      → Works (read_text n most s) out store p after store'
-  works-text most fine works = rw (is-text fine, reads-text most fine) at works
-  -- or the first of them is the answer
+  pub works-text : (most : ℕ) (out : List ℕ) {store after store' : List ℕ} (p : Result ℕ Refusal) → Judges n s (Ok text)
+      → Works (stored (go [] (words_on n text.bytes.now 0) (reading none) [] then within most then coded) out) store (told p) after store'
+      → Works (stored (read_text n most s then coded) out) store (told p) after store'
+  works-text most out p fine works = rw (is-text fine, reads-text most fine) at works
 
+-- or the first of them is the answer
 module _ (n : Notation) (s : List ℕ) where
   judged-refused : (most : ℕ) (e : Refusal) → Judges n s (Err e)
       → read_text n most s ≡ refused (refusal_of e)
@@ -155,22 +149,13 @@ module _ (n : Notation) (s : List ℕ) where
   judged-refused most e (is_refused is) = rw is
 
   pub works-refused : (most : ℕ) (e : Refusal) (out store : List ℕ) → Judges n s (Err e)
-      → Works (read_text n most s) out store (Refused e) out store
+      → Works (stored (read_text n most s then coded) out) store (told {A = ℕ} (Err e)) out store
   works-refused most e out store refuses =
       record { stores = refused-stores e out (judged-refused most e refuses); as_long = refl }
 
 -- 1 AND 2, and the work after them
-module _ (n : Notation) (cap : ℕ) (text out room : List ℕ) where
-  pub refuses : {g : Granted} {why : Refusal} → granted_told g ≡ granting cap (length out) (length room)
-      → g ≡ granted.Refused why
-      → (parsed_told (Refused why), out, room) ≡ parse_of n cap text out room
-  unfolding parse_of parsed_told
-  refuses says is = not_granted cap out room refused (stored (read_text n cap text then coded) out) says is
-
-  pub answers : {most : ℕ} → Passed cap out room most → {p : Parsed} {after store' left : List ℕ}
-      → Works (read_text n most text) out (take (room_per_node * most) room) p after store'
-      → left ≡ cleared most (store' ++ drop (room_per_node * most) room)
-      → (parsed_told p, after, left) ≡ parse_of n cap text out room
-  unfolding parse_of
-  answers passes {store' = store'} works left =
-      answered cap out room passes refused store' (rw passes.same at works.stores) works.as_long left
+pub parse_lent : (n : Notation) (cap : ℕ) (text out room : List ℕ)
+    → parse_of n cap text out room
+    ≡ lent refused (cap_allowed cap) (suffice cap out room) cap (stored (read_text n cap text then coded) out) out room
+unfolding parse_of
+parse_lent n cap text out room = refl

@@ -17,37 +17,36 @@ use Rattle.calculus.proofs.Sizes.{length-encode, nine_per_node}
 use Rattle.term.specs.declared.Refusal.TheVariants.{TooHigh, TooManyNodes, EmptyExpression}
 use Rattle.nodes.specs.Coded as nodes
 use Rattle.nodes.specs.Lending.{Lent}
-use Rattle.parser.specs.Answers.{parsed_told}
+use Rattle.std.specs.Prelude.{Ok, Err}
 use Rattle.parser.specs.States.{State}
 use Rattle.parser.specs.Building.{Means, nothing, term, empty}
 use Rattle.parser.specs.Parsing.{Stores, Storable, Saves, at_the_end}
 use Rattle.parser.specs.declared.building.Found.{Found}
 use Rattle.parser.specs.declared.building.Built.{Built}
 use Rattle.parser.specs.declared.building.Part.TheVariants as part
-use Rattle.parser.specs.declared.Parsed.TheVariants.{Length, Refused}
 
 -- by what it stands for: 8, 7, 9, or its bytes
 module _ {store : List ℕ} {most used : ℕ} {out : List ℕ} where
   pub nothing_read : {st : State} → Means store most 0 used part.Nothing st
-      → Stores (at_the_end most st) out (Refused EmptyExpression) out
-  unfolding parsed parsed_told
+      → Stores (at_the_end most st) out (Err EmptyExpression) out
+  unfolding parsed
   nothing_read (nothing e) = refl
 
   pub empty-read : {st : State} → Means store most 0 used part.Empty st
-      → Stores (at_the_end most st) out (Refused EmptyExpression) out
-  unfolding parsed parsed_told
+      → Stores (at_the_end most st) out (Err EmptyExpression) out
+  unfolding parsed
   empty-read (empty g) = refl
 
   pub too_high-read : {found : Found} {st : State} → most_height < found.height
       → Means store most 0 used (part.Term found) st
-      → Stores (at_the_end most st) out (Refused TooHigh) out
-  unfolding parsed parsed_told within
+      → Stores (at_the_end most st) out (Err TooHigh) out
+  unfolding parsed within
   too_high-read high (term {t} h n below built) = rw (lt-leb (height t) most_height (omega arith))
 
   module _ {found : Found} (low : found.height ≤ most_height) where
     pub too_many-read : {st : State} → most < used → Means store most 0 used (part.Term found) st
-        → Stores (at_the_end most st) out (Refused TooManyNodes) out
-    unfolding parsed parsed_told within
+        → Stores (at_the_end most st) out (Err TooManyNodes) out
+    unfolding parsed within
     too_many-read many (term {t} h n below built) =
         rw (le-leb (height t) most_height (omega arith), lt-leb (nodes t) most (omega arith))
 
@@ -61,8 +60,8 @@ module _ {store : List ℕ} {most used : ℕ} {out : List ℕ} where
       }
 
       pub stored_there : {after : List ℕ} {to : ℕ} {st : State} → nodes.Saves store found.node out 0 to after
-          → Means store most 0 used (part.Term found) st → Stores (at_the_end most st) out (Length to) after
-      unfolding parsed parsed_told within
+          → Means store most 0 used (part.Term found) st → Stores (at_the_end most st) out (Ok to) after
+      unfolding parsed within
       stored_there saved (term {t} h n below built) =
           let put = saved.saved t (built few (omega arith)) in
           let fits : length (encode t) ≤ length out = omega (arith, length-encode t, nine_per_node t, lent.output) in
@@ -73,20 +72,20 @@ module _ {store : List ℕ} {most used : ℕ} {out : List ℕ} where
 -- by its part
 module _ {store : List ℕ} {most : ℕ} {read : Built} {out : List ℕ} where
   -- 8
-  pub saves-nothing : read.part ≡ part.Nothing → Saves store most read out (Refused EmptyExpression) out
+  pub saves-nothing : read.part ≡ part.Nothing → Saves store most read out (Err EmptyExpression) out
   saves-nothing is = record { saves = λ st m. nothing_read (rw is at m) }
 
-  pub saves-empty : read.part ≡ part.Empty → Saves store most read out (Refused EmptyExpression) out
+  pub saves-empty : read.part ≡ part.Empty → Saves store most read out (Err EmptyExpression) out
   saves-empty is = record { saves = λ st m. empty-read (rw is at m) }
 
   module _ (found : Found) (is : read.part ≡ part.Term found) where
     -- 7
-    pub saves-too_high : most_height < found.height → Saves store most read out (Refused TooHigh) out
+    pub saves-too_high : most_height < found.height → Saves store most read out (Err TooHigh) out
     saves-too_high high = record { saves = λ st m. too_high-read high (rw is at m) }
 
     module _ (low : found.height ≤ most_height) where
       -- 9
-      pub saves_too_many : most < read.used → Saves store most read out (Refused TooManyNodes) out
+      pub saves_too_many : most < read.used → Saves store most read out (Err TooManyNodes) out
       saves_too_many many = record { saves = λ st m. too_many-read low many (rw is at m) }
 
       module _ (few : read.used ≤ most) (there : Storable store most read out) where
@@ -94,7 +93,7 @@ module _ {store : List ℕ} {most : ℕ} {read : Built} {out : List ℕ} where
         can-save = savable low few there.lent (rw is at there.means)
 
         pub saves-term : {after : List ℕ} {to : ℕ} → nodes.Saves store found.node out 0 to after
-            → Saves store most read out (Length to) after
+            → Saves store most read out (Ok to) after
         saves-term saved = record { saves = λ st m. stored_there low few there.lent saved (rw is at m) }
 
 -- the laws by which `save` is proved

@@ -1,5 +1,4 @@
 -- What the code of this crate reads, builds and answers, by the definitions of `calculus`.
-pub mod Answers
 pub mod Opens
 pub mod States
 pub mod Tokens

@@ -10,86 +10,92 @@ ghost use Rattle.std.proofs.Math.Option.{none};
 ghost use Rattle.calculus.specs.Refusal.{◌then◌};
 ghost use Rattle.calculus.specs.Judging.{within};
 ghost use Rattle.calculus.specs.Reading.{read_text};
-ghost use Rattle.calculus.specs.Outcomes.{parse_of};
+ghost use Rattle.calculus.specs.Outcomes.{stored, coded, parse_of};
+ghost use Rattle.term.specs.Answers.{told};
 ghost use Rattle.term.specs.Notations.{notation_of};
-ghost use Rattle.parser.specs.Answers.{parsed_told};
 ghost use Rattle.parser.specs.States.{reading, go};
 ghost use Rattle.parser.specs.Tokens.{words_on, Valid};
 ghost use Rattle.nodes.specs.Lending.{Lent};
-ghost use Rattle.parser.specs.Parsing.{Storable, Saves, Works};
+ghost use Rattle.nodes.specs.Working.{Works};
+ghost use Rattle.parser.specs.Parsing.{Storable, Saves};
 
 use building::{Built, Part};
 use calculus::{MOST_HEIGHT, MOST_OPEN, ROOM_PER_NODE};
-use nodes::lending::{Granted, grant};
+use nodes::lending::grant;
 use sequences::sequence;
 use term::{Notation, Refusal};
 use words::Cursor;
 use words::text::Text;
 
-// The bytes that the term takes in the output, or why it has none.
-#[derive(Clone, Copy)]
-pub enum Parsed {
-    Length(usize),
-    Refused(Refusal),
-}
-
 // 8, 7, then 9, of what was read; the bytes of a term that is within the bounds.
 #[tactic(auto, using(crate::proofs::Saving::saving))]
-fn save(store: &[u64], cap: usize, read: Built, out: &mut [u8]) -> Parsed
+fn save(store: &[u64], cap: usize, read: Built, out: &mut [u8]) -> Result<usize, Refusal>
     requires { Storable store.now cap read out.old }
     ensures { Saves store.now cap read out.old result out.new }
 {
     match read.part {
-        Part::Nothing | Part::Empty => Parsed::Refused(Refusal::EmptyExpression),
+        Part::Nothing | Part::Empty => Err(Refusal::EmptyExpression),
         Part::Term(whole) => {
             if MOST_HEIGHT < whole.height {
-                return Parsed::Refused(Refusal::TooHigh);
+                return Err(Refusal::TooHigh);
             }
             if cap < read.used {
-                return Parsed::Refused(Refusal::TooManyNodes);
+                return Err(Refusal::TooManyNodes);
             }
-            Parsed::Length(nodes::save(store, whole.node, out, 0))
+            Ok(nodes::save(store, whole.node, out, 0))
         }
     }
 }
 
 // The walk's 6 or 7, then 8, 7 and 9, of a text whose words are valid.
-fn build(notation: Notation, cap: usize, text: Text, out: &mut [u8], store: &mut [u64]) -> Parsed
+fn build(
+    notation: Notation,
+    cap: usize,
+    text: Text,
+    out: &mut [u8],
+    store: &mut [u64],
+) -> Result<usize, Refusal>
     requires { Lent cap out.old store.old × Valid (notation_of notation) text.bytes.now 0 }
-    ensures { Works (go [] (words_on (notation_of notation) text.entry.bytes.now 0) (reading none) []
-        then within cap) out.old store.old result out.new store.new }
+    ensures { Works (stored (go [] (words_on (notation_of notation) text.entry.bytes.now 0) (reading none) []
+        then within cap then coded) out.old) store.old (told result) out.new store.new }
 {
     let mut stack = [None; MOST_OPEN];
     let start = Cursor { at: 0, chars: 0 };
-    match sequence(text, notation, &mut stack, 0, store, cap, start, 0) {
-        Err(why) => Parsed::Refused(why),
-        Ok(went) => save(store, cap, went.read, out),
-    }
+    let went = sequence(text, notation, &mut stack, 0, store, cap, start, 0)?;
+    save(store, cap, went.read, out)
 }
 
 // All that comes after 1 and 2.
-fn read(notation: Notation, cap: usize, text: &[u8], out: &mut [u8], store: &mut [u64]) -> Parsed
+fn read(
+    notation: Notation,
+    cap: usize,
+    text: &[u8],
+    out: &mut [u8],
+    store: &mut [u64],
+) -> Result<usize, Refusal>
     requires { Lent cap out.old store.old }
-    ensures { Works (read_text (notation_of notation) cap text.now)
-        out.old store.old result out.new store.new }
+    ensures { Works (stored (read_text (notation_of notation) cap text.now then coded) out.old)
+        store.old (told result) out.new store.new }
 {
     match words::judge(notation, text) {
-        Err(why) => Parsed::Refused(why),
+        Err(why) => Err(why),
         Ok(text) => build(notation, cap, text, out, store),
     }
 }
 
 // 1, 2, then the work, after which the room is cleared.
-pub fn parse(notation: Notation, cap: u64, text: &[u8], out: &mut [u8], room: &mut [u64]) -> Parsed
-    ensures { (parsed_told result, out.new, room.new)
+pub fn parse(
+    notation: Notation,
+    cap: u64,
+    text: &[u8],
+    out: &mut [u8],
+    room: &mut [u64],
+) -> Result<usize, Refusal>
+    ensures { (told result, out.new, room.new)
         ≡ parse_of (notation_of notation) cap text.now out.old room.old }
 {
-    match grant(cap, out.len(), room.len()) {
-        Granted::Refused(why) => Parsed::Refused(why),
-        Granted::Cap(most) => {
-            let answer = read(notation, most, text, out, &mut room[..ROOM_PER_NODE * most]);
-            nodes::clear(room, most);
-            answer
-        }
-    }
+    let most = grant(cap, out.len(), room.len())?;
+    let answer = read(notation, most, text, out, &mut room[..ROOM_PER_NODE * most]);
+    nodes::clear(room, most);
+    answer
 }

@@ -1,5 +1,6 @@
 -- `parser::build` meets its contract: the whole text is one sequence with nothing open.
 use mathlib.Core.Path.{refl}
+use Rattle.std.proofs.lemmas.Result.{err_from_is_err_and}
 use Rattle.parser.proofs.Answering.{ready-first, works_stopped, storable, works_on}
 use Rattle.parser.proofs.build.Goals as goal
 
@@ -7,14 +8,15 @@ pub sequence-requires : goal.sequence-requires
 sequence-requires c =
     ready-first _ refl c.requires.0 c.requires.1
 
+pub returns-in_err-went : goal.returns-in_err-went
+returns-in_err-went c =
+    let p = err_from_is_err_and c.from_residual.result c.from_residual.ensures.1 in
+    rw (p.1, p.2) (works_stopped c.sequence.ensures _ _ c.in_err-went.was)
+
 pub save-requires : goal.save-requires
 save-requires c =
-    storable c.sequence.ensures _ c.in-Ok.is c.requires.0
+    storable c.sequence.ensures _ c.in_ok-went.was c.requires.0
 
-pub returns-in-Err : goal.returns-in-Err
-returns-in-Err c =
-    works_stopped c.sequence.ensures _ _ c.in-Err.is
-
-pub returns-in-Ok : goal.returns-in-Ok
-returns-in-Ok c =
-    works_on c.sequence.ensures _ c.in-Ok.is c.save.ensures
+pub returns : goal.returns
+returns c =
+    works_on c.sequence.ensures _ c.in_ok-went.was c.save.ensures

@@ -11,4 +11,4 @@ returns-in-Err c = works-refused _ _ _ _ _ _ (rw c.in-Err.is at c.judge.ensures)
 
 pub returns-in-Ok : goal.returns-in-Ok
 returns-in-Ok c =
-    works-text _ _ _ (rw c.in-Ok.is at c.judge.ensures) c.build.ensures
+    works-text _ _ _ _ _ (rw c.in-Ok.is at c.judge.ensures) c.build.ensures
