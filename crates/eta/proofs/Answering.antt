@@ -1,18 +1,17 @@
 -- From the named term to what `eta` answers: the input's refusals, the run, and 1 and 2 before.
 use Prim.Native.Nat.{ℕ, ◌-◌, ◌*◌, ◌≤◌, ◌<◌}
-use mathlib.Core.Path.{◌≡◌, refl, ap, ◌∙◌}
-use mathlib.Core.Bool.{true, false, cond}
+use mathlib.Core.Path.{◌≡◌, refl, sym, ap, ◌∙◌}
+use mathlib.Core.Bool.{Bool, true, false, cond}
 use mathlib.Core.List.{List, [], ◌++◌}
 use native.Mathlib.Omega.{arith}
 use lib.ListN.{length, take, drop}
 use Rattle.calculus.specs.Term.{Term, nodes, height}
 use Rattle.calculus.specs.Bounds.{most_height, room_per_node}
 use Rattle.calculus.specs.Bytes.{encode}
-use Rattle.calculus.specs.Runs as calculus
 use Rattle.calculus.specs.Runs.{finished, unfinished, refused_after}
 use Rattle.calculus.specs.Eta.{eta, may_follow, eta_from}
 use Rattle.calculus.specs.Ends.{EtaSteps, none_made, one_more}
-use Rattle.calculus.specs.Outcomes.{checked, run_on, stored_run, cleared, eta_of, laid_over}
+use Rattle.calculus.specs.Outcomes.{checked, run_on, stored_run, lent, cap_allowed, suffice, eta_of}
 use Rattle.calculus.proofs.EtaRuns.{eta-comes, nodes-taken}
 use Rattle.calculus.proofs.Judged.{checked-given}
 use Rattle.calculus.proofs.Lowering.{eta_smaller}
@@ -28,14 +27,11 @@ use Rattle.std.specs.Prelude.{Result, Ok, Err}
 use Rattle.term.specs.declared.Refusal.{Refusal}
 use Rattle.term.proofs.Checking.{check-whole, check_admits}
 use Rattle.term.proofs.Places.{size-within}
-use Rattle.nodes.specs.Answers.{granted_told, granting, run_told}
+use Rattle.nodes.specs.Answers.{ended, run_told}
 use Rattle.nodes.specs.Lending.{Lent}
-use Rattle.nodes.specs.declared.lending.Granted.{Granted}
-use Rattle.nodes.specs.declared.lending.Granted.TheVariants as granted
-use Rattle.nodes.specs.declared.runs.Run.{Run}
-use Rattle.nodes.specs.declared.runs.Run.TheVariants as run
-use Rattle.nodes.proofs.Ending.{ends-stored}
-use Rattle.nodes.proofs.Granting.{not_granted, Passed, answered}
+use Rattle.nodes.specs.declared.runs.End.{End}
+use Rattle.nodes.specs.declared.runs.End.TheVariants.{Finished, Unfinished}
+use Rattle.nodes.proofs.Ending.{run-stored}
 use Rattle.eta.specs.Named.{named, plain, levels}
 use Rattle.eta.specs.Scope.{Among, first, later, Scoped}
 use Rattle.eta.specs.Shrinking.{Came, shrunk}
@@ -57,6 +53,16 @@ no_higher (one_more s rest) = omega (arith, no_higher rest, (eta_smaller s).no_h
 among_none : {k : ℕ} {around : List ℕ} → Among k around → around ≡ [] → ⊥
 among_none first e = let never : ◌≡◌ {A = ℕ} 0 1 = cc in omega arith
 among_none (later a) e = let never : ◌≡◌ {A = ℕ} 0 1 = cc in omega arith
+
+-- a run is left unfinished where a place is left
+abbrev pub by_left : Bool → End
+by_left true = Unfinished
+by_left false = Finished
+
+ended_left : {A : Type 0} (left : Bool) (steps : ℕ) (reached : A)
+    → ended (by_left left) steps reached ≡ cond left (unfinished steps reached) (finished steps reached)
+ended_left true steps reached = refl
+ended_left false steps reached = refl
 
 -- THE LEVELS that a checked term needs, by its height
 pub checked-levels : (cap : ℕ) (s : List ℕ) {r : Result Facts Refusal} → told r ≡ check_of cap s → AllBytes s → {f : Facts}
@@ -186,47 +192,26 @@ module _ {cap count : ℕ} {s out store : List ℕ} (lent : Lent cap out store) 
             let stands = shrinks.comes (named 0 input.term) (reads.names input.term input.stands) in
             writes.written came.1 [] stands.names scoped_there refl none-placed
 
-        runs : eta limit input.term
-            ≡ cond done.left (unfinished done.steps reached) (finished done.steps reached)
+        runs : eta limit input.term ≡ ended (by_left done.left) done.steps reached
         runs =
             let stands = shrinks.comes (named 0 input.term) (reads.names input.term input.stands) in
             rw (stands.steps, stands.left) (eta-whole limit input.term input.small low)
+            ∙ sym (ended_left done.left _ _)
 
-        stored_there : (end : ℕ → calculus.Run ℕ)
-            → ◌≡◌ {A = calculus.Run ℕ × List ℕ} (end to, after)
-            (end (length (encode reached)), laid_over (encode reached) out)
-        stored_there = ends-stored cap reached (omega (arith, no-larger.0, few)) lent.output written
-
-        pub at_unfinished : done.left ≡ true
-            → Works (run_on (checked cap s) (eta limit)) out store (run.Unfinished done.steps to) after end
+        pub at_end : {end' : End} → end' ≡ by_left done.left
+            → Works (stored_run (run_on (checked cap s) (eta limit)) out) store
+            (run_told (Ok (record { end = end'; steps = done.steps; length = to }))) after end
         unfolding run_told
-        at_unfinished left = record {
-          stores = rw (input.passes, runs, left) (stored_there (unfinished done.steps));
-          as_long = shrinks.same.as_long ∙ reads.same.as_long;
-        }
-
-        pub at_finished : done.left ≡ false
-            → Works (run_on (checked cap s) (eta limit)) out store (run.Finished done.steps to) after end
-        unfolding run_told
-        at_finished left = record {
-          stores = rw (input.passes, runs, left) (stored_there (finished done.steps));
+        at_end {end'} is = record {
+          stores = rw (input.passes, runs, is)
+              (run-stored cap reached (omega (arith, no-larger.0, few)) lent.output written (by_left done.left) done.steps);
           as_long = shrinks.same.as_long ∙ reads.same.as_long;
         }
 
 -- 1 AND 2, and the work after them
-module _ (limit cap : ℕ) (s out room : List ℕ) where
-  pub refuses : {g : Granted} {why : Refusal} → granted_told g ≡ granting cap (length out) (length room)
-      → g ≡ granted.Refused why
-      → (run_told (run.Refused 0 why), out, room) ≡ eta_of limit cap s out room
-  unfolding eta_of run_told
-  refuses says is =
-      not_granted cap out room (refused_after 0) (stored_run (run_on (checked cap s) (eta limit)) out) says is
-
-  pub answers : {most : ℕ} → Passed cap out room most → {r : Run} {after store' left : List ℕ}
-      → Works (run_on (checked most s) (eta limit)) out (take (room_per_node * most) room) r after store'
-      → left ≡ cleared most (store' ++ drop (room_per_node * most) room)
-      → (run_told r, after, left) ≡ eta_of limit cap s out room
-  unfolding eta_of
-  answers passes {store' = store'} works left =
-      answered cap out room passes (refused_after 0) store' (rw passes.same at works.stores) works.as_long
-      left
+pub eta_lent : (limit cap : ℕ) (s out room : List ℕ)
+    → eta_of limit cap s out room
+    ≡ lent (refused_after 0) (cap_allowed cap) (suffice cap out room) cap
+    (stored_run (run_on (checked cap s) (eta limit)) out) out room
+unfolding eta_of
+eta_lent limit cap s out room = refl

@@ -5,10 +5,10 @@ mod naming;
 mod shrinking;
 mod writing;
 
-ghost use Rattle.std.specs.Prelude.{◌≡◌, ◌≤◌, length};
+ghost use Rattle.std.specs.Prelude.{◌≡◌, ◌≤◌, length, Ok};
 ghost use Rattle.calculus.specs.Bounds.{most_height};
 ghost use Rattle.calculus.specs.Eta.{eta};
-ghost use Rattle.calculus.specs.Outcomes.{checked, run_on, eta_of};
+ghost use Rattle.calculus.specs.Outcomes.{checked, run_on, stored_run, eta_of};
 ghost use Rattle.nodes.specs.Answers.{run_told};
 ghost use Rattle.nodes.specs.Lending.{Lent};
 ghost use Rattle.nodes.specs.Working.{Works};
@@ -16,8 +16,8 @@ ghost use Rattle.eta.specs.Levelled.{Levelled};
 
 use calculus::ROOM_PER_NODE;
 use naming::load;
-use nodes::lending::{Granted, grant};
-use nodes::runs::Run;
+use nodes::lending::grant;
+use nodes::runs::{End, Run, Stopped};
 use shrinking::shrink;
 use writing::write;
 
@@ -37,19 +37,20 @@ fn contract_places(
     levels: &mut [u64],
 ) -> Run
     requires { Lent cap out.old store.old × Levelled cap s.now (length levels.old) }
-    ensures { Works (run_on (checked cap s.now) (eta limit))
-        out.old store.old result out.new store.new }
+    ensures { Works (stored_run (run_on (checked cap s.now) (eta limit)) out.old)
+        store.old (run_told (Ok result)) out.new store.new }
 {
     let read = load(s, 0, store, 0, levels, 0);
     let used = read.used;
     let done = shrink(store, used - 1, used, 0, limit);
+    let end = if done.left {
+        End::Unfinished
+    } else {
+        End::Finished
+    };
     let steps = done.steps;
     let length = write(store, done.node, out, 0, levels, 0);
-    if done.left {
-        Run::Unfinished { steps, length }
-    } else {
-        Run::Finished { steps, length }
-    }
+    Run { end, steps, length }
 }
 
 // The same, with so many numbers of its own.
@@ -61,8 +62,8 @@ fn contract_within<const N: usize>(
     store: &mut [u64],
 ) -> Run
     requires { Lent cap out.old store.old × Levelled cap s.now N × (N ≤ most_height) }
-    ensures { Works (run_on (checked cap s.now) (eta limit))
-        out.old store.old result out.new store.new }
+    ensures { Works (stored_run (run_on (checked cap s.now) (eta limit)) out.old)
+        store.old (run_told (Ok result)) out.new store.new }
 {
     let mut levels = [0u64; N];
     contract_places(cap, limit, s, out, store, &mut levels)
@@ -78,8 +79,8 @@ fn contract_levels(
     height: u64,
 ) -> Run
     requires { Lent cap out.old store.old × Levelled cap s.now height × (height ≤ most_height) }
-    ensures { Works (run_on (checked cap s.now) (eta limit))
-        out.old store.old result out.new store.new }
+    ensures { Works (stored_run (run_on (checked cap s.now) (eta limit)) out.old)
+        store.old (run_told (Ok result)) out.new store.new }
 {
     if height <= FEW_LEVELS as u64 {
         return contract_within::<FEW_LEVELS>(cap, limit, s, out, store);
@@ -88,28 +89,34 @@ fn contract_levels(
 }
 
 // All that comes after 1 and 2: the input's refusals, then the steps.
-fn work(cap: usize, limit: u64, s: &[u8], out: &mut [u8], store: &mut [u64]) -> Run
+fn work(
+    cap: usize,
+    limit: u64,
+    s: &[u8],
+    out: &mut [u8],
+    store: &mut [u64],
+) -> Result<Run, Stopped>
     requires { Lent cap out.old store.old }
-    ensures { Works (run_on (checked cap s.now) (eta limit))
-        out.old store.old result out.new store.new }
+    ensures { Works (stored_run (run_on (checked cap s.now) (eta limit)) out.old)
+        store.old (run_told result) out.new store.new }
 {
-    match term::check(cap as u64, s) {
-        Err(why) => Run::Refused { steps: 0, why },
-        Ok(facts) => contract_levels(cap, limit, s, out, store, facts.height),
-    }
+    let facts = term::check(cap as u64, s)?;
+    Ok(contract_levels(cap, limit, s, out, store, facts.height))
 }
 
 // 1, 2, then the work, after which the room is cleared. Limit 0 is none.
-pub fn eta(limit: u64, cap: u64, s: &[u8], out: &mut [u8], room: &mut [u64]) -> Run
+pub fn eta(
+    limit: u64,
+    cap: u64,
+    s: &[u8],
+    out: &mut [u8],
+    room: &mut [u64],
+) -> Result<Run, Stopped>
     ensures { (run_told result, out.new, room.new)
         ≡ eta_of limit cap s.now out.old room.old }
 {
-    match grant(cap, out.len(), room.len()) {
-        Granted::Refused(why) => Run::Refused { steps: 0, why },
-        Granted::Cap(most) => {
-            let answer = work(most, limit, s, out, &mut room[..ROOM_PER_NODE * most]);
-            nodes::clear(room, most);
-            answer
-        }
-    }
+    let most = grant(cap, out.len(), room.len())?;
+    let answer = work(most, limit, s, out, &mut room[..ROOM_PER_NODE * most]);
+    nodes::clear(room, most);
+    answer
 }

@@ -1,8 +1,9 @@
 -- `eta::contract_places` meets its contract: the term is named, shrunk and written.
-use mathlib.Core.Path.{refl}
+use mathlib.Core.Path.{refl, sym, ap, ◌∙◌}
 use native.Mathlib.Omega.{arith}
-use Rattle.eta.proofs.Answering.{load_asks, some_read, shrink_asks, write_asks, at_unfinished, at_finished}
+use Rattle.eta.proofs.Answering.{load_asks, some_read, shrink_asks, write_asks, at_end, by_left}
 use Rattle.eta.proofs.contract_places.Goals as goal
+use Rattle.eta.proofs.contract_places.Goals.{then-done, else-done}
 
 pub load-read-requires : goal.load-read-requires
 load-read-requires c =
@@ -20,12 +21,10 @@ pub write-length-requires : goal.write-length-requires
 write-length-requires c =
     write_asks c.requires.0 c.requires.1 refl c.load-read.ensures _ c.shrink-done.ensures
 
-pub returns-then-done : goal.returns-then-done
-returns-then-done c =
-    at_unfinished c.requires.0 c.requires.1 refl c.load-read.ensures _ c.shrink-done.ensures
-    c.write-length.ensures c.if-done.true
-
-pub returns-else-done : goal.returns-else-done
-returns-else-done c =
-    at_finished c.requires.0 c.requires.1 refl c.load-read.ensures _ c.shrink-done.ensures
-    c.write-length.ensures c.if-done.false
+pub returns : goal.returns
+returns c =
+    at_end c.requires.0 c.requires.1 refl c.load-read.ensures _ c.shrink-done.ensures c.write-length.ensures
+    (elim c.if-done.branch [
+      | then-done w ↦ w.end-is ∙ sym (ap by_left w.if-done.true)
+      | else-done w ↦ w.end-is ∙ sym (ap by_left w.if-done.false)
+    ])
