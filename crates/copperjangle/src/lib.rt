@@ -135,8 +135,8 @@ pub fn copperjangle_parse(
         return refused(0, Refusal::OutsideBounds);
     }
     match parser::parse(notation_numbered(notation), cap, text, out, room) {
-        parser::Parsed::Length(length) => given(length as u64),
-        parser::Parsed::Refused(why) => refused(0, why),
+        Ok(length) => given(length as u64),
+        Err(why) => refused(0, why),
     }
 }
 
@@ -152,8 +152,8 @@ pub fn copperjangle_apply(
         out.old room.old) }
 {
     match reduction::apply(cap, abstraction, argument, out, room) {
-        reduction::Applied::Length(length) => given(length as u64),
-        reduction::Applied::Refused(why) => refused(0, why),
+        Ok(length) => given(length as u64),
+        Err(why) => refused(0, why),
     }
 }
 

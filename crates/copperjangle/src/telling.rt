@@ -7,7 +7,7 @@ ghost use Rattle.copperjangle.specs.Answers.{reached_in_numbers, refused_in_numb
 ghost use Rattle.copperjangle.specs.Answers.{number_in_numbers, truth_in_numbers, run_in_numbers};
 
 use crate::Answer;
-use nodes::runs::Run;
+use nodes::runs::{End, Run, Stopped};
 use queries::{Number, Truth};
 use term::{Refusal, refusal_number};
 
@@ -93,12 +93,14 @@ pub(crate) fn truth_told(answer: Truth) -> Answer
 }
 
 // How a run of reduce or eta ended.
-pub(crate) fn run_told(run: Run) -> Answer
+pub(crate) fn run_told(run: Result<Run, Stopped>) -> Answer
     ensures { result ≡ run_in_numbers (run_told run) }
 {
     match run {
-        Run::Finished { steps, length } => reached(1, steps, length as u64),
-        Run::Unfinished { steps, length } => reached(0, steps, length as u64),
-        Run::Refused { steps, why } => refused(steps, why),
+        Ok(run) => match run.end {
+            End::Finished => reached(1, run.steps, run.length as u64),
+            End::Unfinished => reached(0, run.steps, run.length as u64),
+        },
+        Err(stopped) => refused(stopped.steps, stopped.why),
     }
 }

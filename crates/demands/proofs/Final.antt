@@ -8,13 +8,12 @@ use Rattle.calculus.specs.Outcomes.{cap_allowed, limit_allowed, suffice, laid_ov
 use Rattle.finality.specs.Full.{Full}
 use Rattle.finality.proofs.Final as definitions
 use Rattle.nodes.specs.Answers.{run_told}
-use Rattle.nodes.specs.declared.runs.Run.TheVariants.{Finished}
 use Rattle.nodes.proofs.Unique.{one_run}
 use Rattle.orders.specs.Orders.{order_of}
-use Rattle.demands.specs.Calls.{Asked, Answered}
+use Rattle.demands.specs.Calls.{Asked, Answered, finishes}
 
 -- what a call promises that answers Finished
-says : {a : Asked} {n size : ℕ} (r : Answered a) → r.run ≡ Finished n size
+says : {a : Asked} {n size : ℕ} (r : Answered a) → r.run ≡ finishes n size
     → (reduce_of (order_of a.order) a.limit a.cap a.input a.out a.room).0 ≡ finished n size
 unfolding run_told
 says r is = sym (ap (λ x. x.0) r.promised) ∙ ap run_told is
@@ -25,7 +24,7 @@ leaves r = ap (λ x. x.1) r.promised
 
 -- FIRST HALF: NOR, HNO, APP and HAP never finish one input with different bytes, whatever limits, caps and buffers
 pub never_different : {a b : Asked} → a.input ≡ b.input → Full (order_of a.order) → Full (order_of b.order)
-    → (r : Answered a) (q : Answered b) {m n size size' : ℕ} → r.run ≡ Finished m size → q.run ≡ Finished n size'
+    → (r : Answered a) (q : Answered b) {m n size size' : ℕ} → r.run ≡ finishes m size → q.run ≡ finishes n size'
     → (size ≡ size') × (take size r.after ≡ take size' q.after)
 never_different {a} {b} one full full' r q {size = size} {size'} e e' =
     let (long, bytes) = definitions.never_different a.limit b.limit a.cap b.cap b.input a.out b.out
@@ -35,8 +34,8 @@ never_different {a} {b} one full full' r q {size = size} {size'} e e' =
 -- SECOND HALF: a finished run repeated with no less room and limit is the same, in answer and bytes
 pub repeated : {a b : Asked} → a.input ≡ b.input → a.order ≡ b.order → a.limit ≤ b.limit → a.cap ≤ b.cap
     → cap_allowed b.cap && limit_allowed b.limit ≡ true → suffice b.cap b.out b.room ≡ true
-    → (r : Answered a) (q : Answered b) {n size : ℕ} → r.run ≡ Finished n size
-    → (q.run ≡ Finished n size) × (q.after ≡ laid_over (take size r.after) b.out)
+    → (r : Answered a) (q : Answered b) {n size : ℕ} → r.run ≡ finishes n size
+    → (q.run ≡ finishes n size) × (q.after ≡ laid_over (take size r.after) b.out)
     × (q.left ≡ cleared b.cap b.room)
 unfolding run_told
 repeated {a} {b} one order more larger allowed enough r q {size = size} e =

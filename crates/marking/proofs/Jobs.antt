@@ -18,11 +18,9 @@ use Rattle.calculus.specs.Writing.{write_text}
 use Rattle.calculus.specs.Outcomes.{laid_over, stored, coded, limit_allowed, reduced, parse_of}
 use Rattle.calculus.specs.Program.{job, report, comes_to, done, refused_line}
 use Rattle.calculus.proofs.Putting.{Puts}
-use Rattle.term.specs.Answers.{refusal_of}
+use Rattle.term.specs.Answers.{refusal_of, told}
 use Rattle.term.specs.declared.Refusal.{Refusal}
-use Rattle.parser.specs.Answers.{parsed_told}
-use Rattle.parser.specs.declared.Parsed.{Parsed}
-use Rattle.parser.specs.declared.Parsed.TheVariants.{Length, Refused}
+use Rattle.std.specs.Prelude.{Result, Ok, Err}
 use Rattle.marking.proofs.Passing.{read-passes}
 use Rattle.marking.proofs.Storing.{suffices, worked, Stands, stands}
 use Rattle.marking.proofs.Reporting.{refused_reported}
@@ -59,14 +57,12 @@ module _ (n : Notation) (text out room : List ℕ) (output : output_per_node * p
       (suffices out room output work) says in
       rw (ap (λ x. x.0) done, ap (λ x. x.1) done) (coded_as out (read_text n program_cap text))
 
-  module _ {r : Parsed} {after left : List ℕ}
-      (says : (parsed_told r, after, left) ≡ parse_of n program_cap text out room) where
-    pub given_at : {k : ℕ} → r ≡ Length k → Read (read_text n program_cap text) k after
-    unfolding parsed_told
+  module _ {r : Result ℕ Refusal} {after left : List ℕ}
+      (says : (told r, after, left) ≡ parse_of n program_cap text out room) where
+    pub given_at : {k : ℕ} → r ≡ Ok k → Read (read_text n program_cap text) k after
     given_at is = read-given (rw is at (answered says))
 
-    pub refused_at : {why : Refusal} → r ≡ Refused why → read_text n program_cap text ≡ refused (refusal_of why)
-    unfolding parsed_told
+    pub refused_at : {why : Refusal} → r ≡ Err why → read_text n program_cap text ≡ refused (refusal_of why)
     refused_at is = read-refused (rw is at (answered says))
 
 -- THE RUN OF A JOB, which is reported

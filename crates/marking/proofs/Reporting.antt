@@ -22,8 +22,10 @@ use Rattle.calculus.proofs.Putting.{Puts}
 use Rattle.term.specs.Answers.{refusal_of}
 use Rattle.term.specs.declared.Refusal.{Refusal}
 use Rattle.nodes.specs.Answers.{run_told}
+use Rattle.std.specs.Prelude.{Result, Ok, Err}
+use Rattle.nodes.specs.declared.runs.End.TheVariants.{Finished, Unfinished}
 use Rattle.nodes.specs.declared.runs.Run as answer
-use Rattle.nodes.specs.declared.runs.Run.TheVariants.{Finished, Unfinished, Refused}
+use Rattle.nodes.specs.declared.runs.Stopped.{Stopped}
 use Rattle.marking.specs.Working.{most_line, most_output, Printable, Reports}
 use Rattle.marking.proofs.Passing.{Passes, checked-passes, Reaches, at_end, at_limit, nowhere, run-reaches}
 use Rattle.marking.proofs.Storing.{suffices, worked, Stands, stands}
@@ -85,17 +87,18 @@ module _ (o : Order) (limit : ℕ) (s out room : List ℕ) (allowed : limit_allo
       (suffices out room output work) says in
       rw (ap (λ x. x.0) done, ap (λ x. x.1) done) (stored out reaches)
 
-  module _ {r : answer.Run} {after left : List ℕ}
-      (says : (run_told r, after, left) ≡ reduce_of o limit program_cap s out room) {n : ℕ} where
-    pub finished_at : {k : ℕ} → r ≡ Finished n k → Found run (finished n) k after
-    unfolding run_told
-    finished_at is = found-finished (rw is at (answered says))
+  module _ {r : Result answer.Run Stopped} {after left : List ℕ}
+      (says : (run_told r, after, left) ≡ reduce_of o limit program_cap s out room) where
+    module _ {reached : answer.Run} (is : r ≡ Ok reached) where
+      pub finished_at : reached.end ≡ Finished → Found run (finished reached.steps) reached.length after
+      unfolding run_told
+      finished_at end = found-finished (rw (is, end) at (answered says))
 
-    pub unfinished_at : {k : ℕ} → r ≡ Unfinished n k → Found run (unfinished n) k after
-    unfolding run_told
-    unfinished_at is = found-unfinished (rw is at (answered says))
+      pub unfinished_at : reached.end ≡ Unfinished → Found run (unfinished reached.steps) reached.length after
+      unfolding run_told
+      unfinished_at end = found-unfinished (rw (is, end) at (answered says))
 
-    pub refused_at : {why : Refusal} → r ≡ Refused n why → run ≡ refused_after n (refusal_of why)
+    pub refused_at : {stopped : Stopped} → r ≡ Err stopped → run ≡ refused_after stopped.steps (refusal_of stopped.why)
     unfolding run_told
     refused_at is = found-refused (rw is at (answered says))
 

@@ -18,9 +18,8 @@ ghost use Rattle.marking.specs.Working.{most_word, most_line, most_output};
 ghost use Rattle.marking.specs.Working.{Workable, Printable, Reports};
 
 use asking::Job;
-use nodes::runs::Run;
+use nodes::runs::End;
 use orders::Order;
-use parser::Parsed;
 use printer::putting::put;
 use telling::{put_line, put_refusal, put_term};
 use term::{Notation, Refusal};
@@ -65,21 +64,14 @@ fn reduce(
 {
     let mut reached = [0u8; OUTPUT];
     match reduction::reducing::reduce(order, limit, CAP, s, &mut reached, room) {
-        Run::Finished { steps, length } => report_run(
-            b"finished",
-            steps,
-            notation,
-            &reached[..length],
-            out,
-        ),
-        Run::Unfinished { steps, length } => report_run(
-            b"unfinished",
-            steps,
-            notation,
-            &reached[..length],
-            out,
-        ),
-        Run::Refused { steps: _, why } => put_refusal(out, why),
+        Ok(run) => {
+            let s = &reached[..run.length];
+            match run.end {
+                End::Finished => report_run(b"finished", run.steps, notation, s, out),
+                End::Unfinished => report_run(b"unfinished", run.steps, notation, s, out),
+            }
+        }
+        Err(stopped) => put_refusal(out, stopped.why),
     }
 }
 
@@ -100,8 +92,8 @@ fn do_job(job: Job, out: &mut [u8]) -> usize
     let mut coded = [0u8; OUTPUT];
     let mut room = [0u64; ROOM];
     match parser::parse(notation, CAP, text, &mut coded, &mut room) {
-        Parsed::Length(length) => reduce(order, limit, notation, &coded[..length], &mut room, out),
-        Parsed::Refused(why) => put_refusal(out, why),
+        Ok(length) => reduce(order, limit, notation, &coded[..length], &mut room, out),
+        Err(why) => put_refusal(out, why),
     }
 }
 

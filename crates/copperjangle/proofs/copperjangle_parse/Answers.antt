@@ -1,6 +1,7 @@
 -- `copperjangle::copperjangle_parse` meets its contract: the notation that the number names, or 1.
 use native.Mathlib.Omega.{arith}
-use Rattle.parser.specs.Answers.{parsed_told}
+use Rattle.std.specs.Prelude.{ℕ}
+use Rattle.term.specs.Answers.{told}
 use Rattle.copperjangle.specs.Numbers.{notations}
 use Rattle.copperjangle.specs.Answers.{number_in_numbers}
 use Rattle.copperjangle.specs.Exports.{parse_numbered}
@@ -13,18 +14,18 @@ unfolding parse_numbered
 returns-then-notation-ge-NOTATIONS c =
     rw (c.refused.ensures, names-none notations c.args.notation (omega arith))
 
-pub returns-in-Length : goal.returns-in-Length
-unfolding parse_numbered number_in_numbers parsed_told
-returns-in-Length c =
+pub returns-in-Ok : goal.returns-in-Ok
+unfolding parse_numbered number_in_numbers
+returns-in-Ok c =
     rw c.notation_numbered.ensures
     (outcome-told number_in_numbers
-    (case_told (λ a. number_in_numbers (parsed_told a)) c.in-Length.is c.given.ensures)
+    (case_told (λ a. number_in_numbers (told {A = ℕ} a)) c.in-Ok.is c.given.ensures)
     c.parse.ensures)
 
-pub returns-in-Refused : goal.returns-in-Refused
-unfolding parse_numbered number_in_numbers parsed_told
-returns-in-Refused c =
+pub returns-in-Err : goal.returns-in-Err
+unfolding parse_numbered number_in_numbers
+returns-in-Err c =
     rw c.notation_numbered.ensures
     (outcome-told number_in_numbers
-    (case_told (λ a. number_in_numbers (parsed_told a)) c.in-Refused.is c.refused-in-Refused.ensures)
+    (case_told (λ a. number_in_numbers (told {A = ℕ} a)) c.in-Err.is c.refused-in-Err.ensures)
     c.parse.ensures)

@@ -6,12 +6,12 @@ use Rattle.copperjangle.proofs.telling.run_told.Goals as goal
 
 pub returns-in-Finished : goal.returns-in-Finished
 unfolding run_in_numbers run_told
-returns-in-Finished c = case_told (λ a. run_in_numbers (run_told a)) c.in-Finished.is c.reached.ensures
+returns-in-Finished c = rw (c.in-Ok.is, c.in-Finished.is) c.reached.ensures
 
 pub returns-in-Unfinished : goal.returns-in-Unfinished
 unfolding run_in_numbers run_told
-returns-in-Unfinished c = case_told (λ a. run_in_numbers (run_told a)) c.in-Unfinished.is c.reached-in-Unfinished.ensures
+returns-in-Unfinished c = rw (c.in-Ok.is, c.in-Unfinished.is) c.reached-in-Unfinished.ensures
 
-pub returns-in-Refused : goal.returns-in-Refused
+pub returns-in-Err : goal.returns-in-Err
 unfolding run_in_numbers run_told
-returns-in-Refused c = case_told (λ a. run_in_numbers (run_told a)) c.in-Refused.is c.refused.ensures
+returns-in-Err c = case_told (λ a. run_in_numbers (run_told a)) c.in-Err.is c.refused.ensures
