@@ -12,13 +12,15 @@ use Rattle.calculus.proofs.Judged.{checked-given}
 use Rattle.calculus.proofs.Measures.{nodes_positive}
 use Rattle.term.specs.Surveys.{Admitted}
 use Rattle.term.specs.declared.Refusal.TheVariants.{NotAbs}
-use Rattle.nodes.specs.Packing.{kind_in}
+use Rattle.nodes.specs.Node.{node_in}
+use Rattle.nodes.specs.declared.Node.{Node}
+use Rattle.nodes.specs.declared.Node.TheVariants.{Abstraction}
 use Rattle.nodes.specs.Store.{Holds, Same, word, link, kind}
 use Rattle.nodes.specs.Lending.{Lent}
 use Rattle.nodes.specs.Reading.{Taken}
 use Rattle.nodes.proofs.Granting.{lent_on}
 use Rattle.nodes.proofs.Keeping.{holds_kept, says}
-use Rattle.nodes.proofs.Parts.{HeldAbstraction, held-abstraction}
+use Rattle.nodes.proofs.Parts.{HeldAbstraction, held-abstraction, reads_abstraction}
 use Rattle.std.specs.Prelude.{Result, Err}
 use Rattle.term.specs.Answers.{told}
 use Rattle.term.specs.declared.Refusal.{Refusal}
@@ -79,47 +81,50 @@ both_read {top = top} {u = u} lent long one same two =
     }
 
 module _ {cap top used : ℕ} {s u out store end : List ℕ} (both : Both cap s u out store top used end) where
-  -- 11
-  module _ (other : kind_in (word end (top - 1)) ≡ 2 → ⊥) where
-    root_no-body : (t : Term) → Holds end t (top - 1) → body_of t ≡ refused not_abs
-    unfolding kind
-    root_no-body (var i) h = refl
-    root_no-body (lam b) h = absurd (other (says end (lam b) (top - 1) h).kind_is)
-    root_no-body (app l r) h = refl
+  module _ {found : Node} (seen : found ≡ node_in (word end (top - 1)) (link end (top - 1))) where
+    -- 11
+    module _ (other : (n : ℕ) → found ≡ Abstraction n → ⊥) where
+      root_no-body : (t : Term) → Holds end t (top - 1) → body_of t ≡ refused not_abs
+      unfolding kind
+      root_no-body (var i) h = refl
+      root_no-body (lam b) h =
+          let two = (says end (lam b) (top - 1) h).kind_is in
+          absurd (other _ (seen ∙ reads_abstraction (word end (top - 1)) (link end (top - 1)) two))
+      root_no-body (app l r) h = refl
 
-    pub at_no-abstraction : Works (stored (applied cap s u then coded) out) store (told {A = ℕ} (Err NotAbs)) out end
-    at_no-abstraction = no_body cap s u both.long both.first both.second refl (root_no-body both.first.term both.root)
+      pub at_no-abstraction : Works (stored (applied cap s u then coded) out) store (told {A = ℕ} (Err NotAbs)) out end
+      at_no-abstraction = no_body cap s u both.long both.first both.second refl (root_no-body both.first.term both.root)
 
-  -- THE BODY is the root's link
-  module _ (is : kind_in (word end (top - 1)) ≡ 2) where
-    held : HeldAbstraction end (top - 1) both.first.term
-    held = held-abstraction end (top - 1) both.first.term is both.root
+    -- THE BODY
+    module _ {n : ℕ} (is : found ≡ Abstraction n) where
+      held : HeldAbstraction end (top - 1) n both.first.term
+      held = held-abstraction end (top - 1) seen both.first.term both.root is
 
-    pub linked_asks : Contractible cap end used (link end (top - 1)) (used - 1) out
-    unfolding nodes height
-    linked_asks =
-        let (_, low, few) = checked-given s both.first.passes in
-        let (_, low', few') = checked-given u both.second.passes in
-        record {
-          lent = both.lent;
-          body_term = held.body;
-          put_term = both.second.term;
-          holds = held.held;
-          holds_put = both.argument;
-          below = omega (arith, held.below, both.more);
-          below_put = omega (arith, both.more);
-          few = both.most;
-          few_body = omega (arith, ap nodes held.same);
-          few_put = few';
-          low = omega (arith, ap height held.same);
-          low_put = low';
-        }
+      pub linked_asks : Contractible cap end used n (used - 1) out
+      unfolding nodes height
+      linked_asks =
+          let (_, low, few) = checked-given s both.first.passes in
+          let (_, low', few') = checked-given u both.second.passes in
+          record {
+            lent = both.lent;
+            body_term = held.body;
+            put_term = both.second.term;
+            holds = held.held;
+            holds_put = both.argument;
+            below = omega (arith, held.below, both.more);
+            below_put = omega (arith, both.more);
+            few = both.most;
+            few_body = omega (arith, ap nodes held.same);
+            few_put = few';
+            low = omega (arith, ap height held.same);
+            low_put = low';
+          }
 
-    pub at_linked : {r : Result ℕ Refusal} {store' after : List ℕ}
-        → Contracts cap end (link end (top - 1)) (used - 1) out r store' after
-        → Works (stored (applied cap s u then coded) out) store (told r) after store'
-    unfolding applied
-    at_linked contracts =
-        let works = contracts.contracts held.body both.second.term held.held both.argument in
-        rw (both.first.passes, both.second.passes, held.same)
-        (record { stores = works.stores; as_long = works.as_long ∙ both.long })
+      pub at_linked : {r : Result ℕ Refusal} {store' after : List ℕ}
+          → Contracts cap end n (used - 1) out r store' after
+          → Works (stored (applied cap s u then coded) out) store (told r) after store'
+      unfolding applied
+      at_linked contracts =
+          let works = contracts.contracts held.body both.second.term held.held both.argument in
+          rw (both.first.passes, both.second.passes, held.same)
+          (record { stores = works.stores; as_long = works.as_long ∙ both.long })

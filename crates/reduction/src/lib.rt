@@ -12,7 +12,7 @@ ghost use Rattle.nodes.specs.Working.{Works};
 ghost use Rattle.reduction.specs.Applying.{Contractible, Contracts};
 
 use calculus::{MOST_HEIGHT, ROOM_PER_NODE};
-use nodes::kind_of;
+use nodes::Node;
 use nodes::lending::grant;
 use nodes::reading::load_checked;
 use substitution::put_in;
@@ -57,8 +57,7 @@ fn work(cap: usize, s: &[u8], u: &[u8], out: &mut [u8], store: &mut [u64]) -> Re
     let top = load_checked(cap, s, store, 0)?;
     let used = load_checked(cap, u, store, top)?;
     let root = top - 1;
-    if kind_of(store[2 * root]) == 2 {
-        let body = store[2 * root + 1] as usize;
+    if let Node::Abstraction(body) = nodes::node_at(store, root) {
         return contract(cap, store, used, body, used - 1, out);
     }
     Err(Refusal::NotAbs)

@@ -40,27 +40,21 @@ returns-in_err-used c =
 pub overflow_sub-root : goal.overflow_sub-root
 overflow_sub-root c = omega (arith, both (goal.at.overflow_sub-root c).In_ok-used)
 
-pub overflow_mul-root : goal.overflow_mul-root
-overflow_mul-root c = omega (arith, both (goal.at.overflow_mul-root c).In_ok-used)
-
-pub offset_bounds-store-root : goal.offset_bounds-store-root
-offset_bounds-store-root c = omega (arith, both (goal.at.offset_bounds-store-root c).In_ok-used)
-
-pub bounds-store-root : goal.bounds-store-root
-bounds-store-root c = omega (arith, both (goal.at.bounds-store-root c).In_ok-used)
+pub node_at-requires : goal.node_at-requires
+node_at-requires c = omega (arith, both (goal.at.node_at-requires c).In_ok-used)
 
 pub overflow_sub-used : goal.overflow_sub-used
 overflow_sub-used c = omega (arith, both (goal.at.overflow_sub-used c).In_ok-used)
 
 pub contract-requires : goal.contract-requires
 contract-requires c =
-    linked_asks (both (goal.at.contract-requires c).In_ok-used) (sym c.kind_of.ensures ∙ c.if-kind_of-eq2.true)
+    linked_asks (both (goal.at.contract-requires c).In_ok-used) c.node_at.ensures c.in-Abstraction.is
 
-pub returns-then-kind_of-eq2 : goal.returns-then-kind_of-eq2
-returns-then-kind_of-eq2 c =
-    at_linked (both (goal.at.returns-then-kind_of-eq2 c).In_ok-used) (sym c.kind_of.ensures ∙ c.if-kind_of-eq2.true)
+pub returns-in-Abstraction : goal.returns-in-Abstraction
+returns-in-Abstraction c =
+    at_linked (both (goal.at.returns-in-Abstraction c).In_ok-used) c.node_at.ensures c.in-Abstraction.is
     c.contract.ensures
 
 pub returns : goal.returns
 returns c =
-    at_no-abstraction (both (goal.at.returns c).In_ok-used) (λ is. c.if-kind_of-eq2.false (c.kind_of.ensures ∙ is))
+    at_no-abstraction (both (goal.at.returns c).In_ok-used) c.node_at.ensures c.in_default.not-Abstraction
