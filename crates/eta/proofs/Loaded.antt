@@ -1,8 +1,8 @@
 -- Loading a named term: at each head, what the calls ask and what they come to.
 use Rattle.std.specs.Prelude.{Some}
 use Prim.Native.Nat.{ℕ, ◌+◌, ◌-◌, ◌*◌, ◌≤◌, ◌<◌}
-use mathlib.Core.Path.{◌≡◌, ap, ◌∙◌}
-use mathlib.Core.Bool.{◌&&◌, ◌||◌, not}
+use mathlib.Core.Path.{◌≡◌, refl, ap, ◌∙◌}
+use mathlib.Core.Bool.{Bool, ◌&&◌, ◌||◌, not}
 use mathlib.Core.List.{List}
 use native.Mathlib.Omega.{arith}
 use native.Mathlib.Numerals.{add-one}
@@ -117,31 +117,32 @@ module _ {s : List ℕ} {at : ℕ} {room : List ℕ} {used : ℕ} {counts : List
           omega (arith, asked.fits, ap nodes v.same, reads.same.as_long)
 
       -- the body's count of the binder is how often it is named
-      binder-named : {w : ℕ} {after : List ℕ} (b : Term) → Stands s (at + 1) b
-          → w ≡ binder_word depth (eqb (get_or counts' depth 0) 1 && not body.zero)
-          → Stored mid after body.used w (body.used - 1)
+      binder-named : {linear : Bool} {after : List ℕ} (b : Term) → Stands s (at + 1) b
+          → linear ≡ (eqb (get_or counts' depth 0) 1 && not body.zero)
+          → Stored mid after body.used (binder_word depth linear) (body.used - 1)
           → Names after (named depth (lam b)) body.used
       unfolding uses has_zero
-      binder-named b st word_is added =
+      binder-named b st linear_is added =
           let count = counted-binder counts (reads.counted b st) (depth_inside asked) in
           let grown = some-made body_asks reads in
           rw (named-under depth b)
-          (binds-stored added depth (named (depth + 1) b) (word_is ∙ rw (count, reads.zero b st)) (omega arith)
+          (binds-stored added depth (named (depth + 1) b)
+          (ap (binder_word depth) linear_is ∙ rw (count, reads.zero b st)) (omega arith)
           (reads.names b st))
 
-      pub at_abstraction : {next w : ℕ} {after : List ℕ}
-          → w ≡ binder_word depth (eqb (get_or counts' depth 0) 1 && not body.zero) → next ≡ body.used + 1
-          → Stored mid after body.used w (body.used - 1)
+      pub at_abstraction : {next : ℕ} {linear : Bool} {after : List ℕ}
+          → linear ≡ (eqb (get_or counts' depth 0) 1 && not body.zero) → next ≡ body.used + 1
+          → Stored mid after body.used (binder_word depth linear) (body.used - 1)
           → Reads s at room used counts depth (record { next = body.next; used = next; zero = body.zero })
           after counts'
       unfolding nodes size has_zero
-      at_abstraction word_is end added =
+      at_abstraction linear_is end added =
           let last : body.used + 1 - 1 ≡ body.used = omega arith in
           let grown = some-made body_asks reads in
           rw end (record {
             names = λ t st.
                 let v = is-abstraction t h st in
-                rw (v.same, last) (binder-named v.body v.body_at word_is added);
+                rw (v.same, last) (binder-named v.body v.body_at linear_is added);
             made = λ t st.
                 let v = is-abstraction t h st in
                 omega (arith, ap nodes v.same, reads.made v.body v.body_at);
@@ -209,32 +210,30 @@ module _ {s : List ℕ} {at : ℕ} {room : List ℕ} {used : ℕ} {counts : List
             let r = second.made v.right (right-stands asked.term asked.stands) in
             omega (arith, asked.fits, ap nodes v.same, first.same.as_long, second.same.as_long)
 
-        application-named : {w x : ℕ} {after : List ℕ} (t : Term) → Stands s at t → w ≡ 3
-            → x ≡ left.used - 1 + 4294967296 * (right.used - 1) → Stored end after right.used w x
+        application-named : {after : List ℕ} (t : Term) → Stands s at t
+            → Stored end after right.used 3 (left.used - 1 + 4294967296 * (right.used - 1))
             → Names after (named depth t) right.used
         unfolding named
-        application-named t st kind parts added =
+        application-named t st added =
             let v = is-application t h st in
             let (some, more, low) = parts-made in
             let l = named depth v.left in
             let made = first.names v.left v.left_at in
             let still = names-kept l (left.used - 1) second.same (omega arith) made in
             rw v.same
-            (joins-stored added l (named depth v.right) kind parts (omega arith) (omega arith) (omega arith) still
+            (joins-stored added l (named depth v.right) refl refl (omega arith) (omega arith) (omega arith) still
             (second.names v.right (right-stands t st)))
 
-        pub at_application : {next w x : ℕ} {after : List ℕ} → w ≡ 3
-            → x ≡ left.used - 1 + 4294967296 * (right.used - 1) → next ≡ right.used + 1
-            → Stored end after right.used w x
-            → Reads s at room used counts depth
-            (record { next = right.next; used = next; zero = left.zero || right.zero }) after counts₂
+        pub at_application : {next : ℕ} {zero : Bool} {after : List ℕ} → zero ≡ (left.zero || right.zero)
+            → next ≡ right.used + 1 → Stored end after right.used 3 (left.used - 1 + 4294967296 * (right.used - 1))
+            → Reads s at room used counts depth (record { next = right.next; used = next; zero = zero }) after counts₂
         unfolding nodes size named has_zero
-        at_application kind parts stop added =
+        at_application zero_is stop added =
             let last : right.used + 1 - 1 ≡ right.used = omega arith in
             let l_made = some-made left_asks first in
             let r_made = some-made right_asks second in
-            rw stop (record {
-              names = λ t st. rw last (application-named t st kind parts added);
+            rw (stop, zero_is) (record {
+              names = λ t st. rw last (application-named t st added);
               made = λ t st.
                   let v = is-application t h st in
                   let l = first.made v.left v.left_at in

@@ -1,95 +1,79 @@
--- Whether an abstraction is a place: by its first number, and by the kinds of its body and of what that is applied to.
-use Prim.Native.Nat.{ℕ, ◌+◌, ◌*◌, ◌/◌, ◌%◌, ◌≤◌, ◌<◌}
-use mathlib.Core.Path.{◌≡◌, refl, sym}
+-- Whether an abstraction is a place: by its binder, and by what its body is and what that is applied to.
+use Rattle.std.specs.Prelude.{Option, Some, None}
+use Prim.Native.Nat.{ℕ, ◌+◌, ◌*◌, ◌≤◌, ◌<◌}
+use mathlib.Core.Path.{◌≡◌, refl, ap, ◌∙◌, sym}
 use mathlib.Core.Bool.{Bool, true, false, ◌&&◌, and-false, false≢true}
 use mathlib.Core.List.{List}
 use native.Mathlib.Omega.{arith}
 use lib.ListN.{length}
 use lib.Dec.{eqb}
-use Rattle.nodes.specs.Packing.{kind_in}
-use Rattle.nodes.specs.Store.{word, link}
+use borrow.Author.Tests.{eq-eqb, ne_eqb}
 use Rattle.eta.specs.Named.{Named, bound, loose, binds, joins, weight}
 use Rattle.eta.specs.Shrinking.{ends_in, applied}
-use Rattle.eta.specs.Store.{Names, binder_word}
-use Rattle.eta.specs.Shrinks.{Checkable, Ready}
-use Rattle.eta.proofs.Parts.{named-bound, named-application}
+use Rattle.eta.specs.Store.{Names, node_at}
+use Rattle.eta.specs.Shrinks.{Checkable, Contracts}
+use Rattle.eta.specs.declared.named.Binder.{Binder}
+use Rattle.eta.specs.declared.named.Node.TheVariants as read
+use Rattle.eta.proofs.Parts.{reads, named-bound, named-application}
 
--- a binder that is not lone
-not-lone : {w : ℕ} (k : ℕ) (alone : Bool) → w ≡ binder_word k alone → w / 4 % 2 ≡ 0 → alone ≡ false
-not-lone k true e even = absurd (omega arith)
-not-lone k false e even = refl
+-- only an application ends in something
+ends_nowhere : (xs : List ℕ) (n k : ℕ) (b : Named) → ((l r : ℕ) → node_at xs n ≡ read.Application l r → ⊥)
+    → Names xs b n → ends_in k b ≡ false
+ends_nowhere xs n k (bound m) other h = refl
+ends_nowhere xs n k (loose j) other h = refl
+ends_nowhere xs n k (binds m b) other h = refl
+ends_nowhere xs n k (joins l r) other h = absurd (other _ _ (reads xs n (joins l r) h))
 
-lone-level : {w : ℕ} (k : ℕ) (alone : Bool) → w ≡ binder_word k alone → (w / 4 % 2 ≡ 0 → ⊥)
-    → (alone ≡ true) × (w / 8 ≡ k)
-lone-level k true e odd = (refl, omega arith)
-lone-level k false e odd = absurd (odd (omega arith))
+ends_elsewhere : (xs : List ℕ) (n k : ℕ) (l r : Named) → (node_at xs n ≡ read.Bound k → ⊥) → Names xs r n
+    → ends_in k (joins l r) ≡ false
+ends_elsewhere xs n k l (bound m) other h = ne_eqb m k (λ e. other (reads xs n (bound m) h ∙ ap read.Bound e))
+ends_elsewhere xs n k l (loose j) other h = refl
+ends_elsewhere xs n k l (binds m b) other h = refl
+ends_elsewhere xs n k l (joins m r) other h = refl
 
-module _ (xs : List ℕ) (n k : ℕ) where
-  -- only an application ends in something
-  ends_nowhere : (b : Named) → (kind_in (word xs n) ≡ 3 → ⊥) → Names xs b n → ends_in k b ≡ false
-  unfolding Names
-  ends_nowhere (bound m) other h = refl
-  ends_nowhere (loose j) other h = refl
-  ends_nowhere (binds m b) other h = refl
-  ends_nowhere (joins l r) other h = absurd (other (omega (arith, h.0)))
-
-  ends_elsewhere : (l r : Named) → (kind_in (word xs n) ≡ 0 → ⊥) → Names xs r n → ends_in k (joins l r) ≡ false
-  unfolding Names
-  ends_elsewhere l (bound m) other h = absurd (other (omega (arith, h.0)))
-  ends_elsewhere l (loose j) other h = refl
-  ends_elsewhere l (binds m b) other h = refl
-  ends_elsewhere l (joins m r) other h = refl
-
--- what a place applies
-pub record Applies (xs : List ℕ) (n : ℕ) (b : Named) : Type 0 where
-  pub below : link xs n % 4294967296 < n
-  pub names : Names xs (applied b) (link xs n % 4294967296)
-  pub lighter : weight (applied b) < weight b
-
-ends-place : {xs : List ℕ} {n : ℕ} (k : ℕ) (b : Named) → ends_in k b ≡ true → Names xs b n → Applies xs n b
-unfolding Names weight
-ends-place k (bound m) e h = absurd (false≢true e)
-ends-place k (loose j) e h = absurd (false≢true e)
-ends-place k (binds m b) e h = absurd (false≢true e)
-ends-place k (joins l r) e h = record { below = h.1; names = h.3; lighter = omega arith }
-
-pub ready-place : {xs : List ℕ} {n : ℕ} (k : ℕ) (alone : Bool) (b : Named) → (alone && ends_in k b) ≡ true
-    → Names xs b n → Applies xs n b
-ready-place k true b e h = ends-place k b e h
-ready-place k false b e h = absurd (false≢true e)
+-- what a place applies is lighter
+pub lighter-place : (k : ℕ) (alone : Bool) (b : Named) → (alone && ends_in k b) ≡ true → weight (applied b) < weight b
+unfolding weight
+lighter-place k false b e = absurd (false≢true e)
+lighter-place k true (bound m) e = absurd (false≢true e)
+lighter-place k true (loose j) e = absurd (false≢true e)
+lighter-place k true (binds m b) e = absurd (false≢true e)
+lighter-place k true (joins l r) e = omega arith
 
 -- what an application applies to lies inside
-pub last-inside : {room : List ℕ} {body : ℕ} → kind_in (word room body) ≡ 3 → Checkable room body
-    → 2 * (link room body / 4294967296) + 2 ≤ length room
-last-inside {room} {body} joined asked =
-    let v = named-application room body asked.term joined asked.names in
-    omega (arith, asked.inside, v.right_below)
+pub last-inside : {room : List ℕ} {body m last : ℕ} → node_at room body ≡ read.Application m last
+    → Checkable room body → 2 * last + 2 ≤ length room
+last-inside {room} {body} is asked =
+    let v = named-application room body asked.term is asked.names in omega (arith, asked.inside, v.right_below)
 
-module _ {room : List ℕ} {w body : ℕ} where
-  pub never : w / 4 % 2 ≡ 0 → Ready room w body false
-  never even = record { tells = λ k alone b is-binder h. rw (not-lone k alone is-binder even) }
-
-  pub no-application : (kind_in (word room body) ≡ 3 → ⊥) → Ready room w body false
-  no-application other = record {
-    tells = λ k alone b is-binder h. sym (rw (ends_nowhere room body k b other h) (and-false alone));
+module _ {room : List ℕ} {binder : Binder} {body : ℕ} where
+  none-left : ((b : Named) → Names room b body → (binder.linear && ends_in binder.level b) ≡ false)
+      → Contracts room binder body None
+  none-left told = record {
+    goes = λ m e. let z : ◌≡◌ {A = ℕ} 0 1 = cc in absurd (omega arith);
+    stays = λ _ b h. told b h;
   }
 
-  module _ (joined : kind_in (word room body) ≡ 3) where
-    module _ {last : ℕ} (is_last : last ≡ link room body / 4294967296) where
-      pub no-variable : (kind_in (word room last) ≡ 0 → ⊥) → Ready room w body false
-      no-variable other = record {
-        tells = λ k alone b is-binder h.
-            let v = named-application room body b joined h in
-            let none = ends_elsewhere room last k v.left v.right other (rw is_last v.right_names) in
-            sym (rw (v.same, none) (and-false alone));
-      }
+  pub no-application : ((l r : ℕ) → node_at room body ≡ read.Application l r → ⊥) → Contracts room binder body None
+  no-application other =
+      none-left (λ b h. rw (ends_nowhere room body binder.level b other h) (and-false binder.linear))
 
-      pub by_level : (w / 4 % 2 ≡ 0 → ⊥) → kind_in (word room last) ≡ 0
-          → Ready room w body (eqb (link room last) (w / 8))
-      by_level odd variable = record {
-        tells = λ k alone b is-binder h.
-            let v = named-application room body b joined h in
-            let named = named-bound room last v.right variable (rw is_last v.right_names) in
-            let (lone, level) = lone-level k alone is-binder odd in
-            rw (v.same, named, lone, level);
-      }
+  module _ {m last : ℕ} (is : node_at room body ≡ read.Application m last) where
+    pub applied_elsewhere : (node_at room last ≡ read.Bound binder.level → ⊥) → Contracts room binder body None
+    applied_elsewhere other =
+        none-left (λ b h.
+        let v = named-application room body b is h in
+        let none = ends_elsewhere room last binder.level v.left v.right other v.right_names in
+        rw (v.same, none) (and-false binder.linear))
+
+    pub applied_to-binder : binder.linear ≡ true → node_at room last ≡ read.Bound binder.level
+        → Contracts room binder body (Some m)
+    applied_to-binder linear last_is = record {
+      goes = λ n e b h.
+          let v = named-application room body b is h in
+          let named = named-bound room last v.right last_is v.right_names in
+          let here : m ≡ n = cc in
+          rw (sym here, v.same, named, linear, eq-eqb binder.level binder.level refl)
+          (refl, v.left_below, v.left_names);
+      stays = λ e. let z : ◌≡◌ {A = ℕ} 0 1 = cc in absurd (omega arith);
+    }

@@ -1,4 +1,5 @@
 -- A node whose parts are done: it stays, it is made anew of what they came to, or an abstraction goes.
+use Rattle.std.specs.Prelude.{Option, Some, None}
 use Prim.Native.Nat.{ℕ, ◌+◌, ◌*◌, ◌/◌, ◌%◌, ◌≤◌, ◌<◌}
 use mathlib.Core.Path.{◌≡◌, refl, sym, ◌∙◌, ap, ap₂}
 use mathlib.Core.Bool.{Bool, true, false, ◌&&◌, ◌||◌}
@@ -9,16 +10,18 @@ use Rattle.nodes.specs.Store.{Same, word, link}
 use Rattle.nodes.proofs.Keeping.{same_refl}
 use Rattle.eta.specs.Named.{Named, binds, joins, lone}
 use Rattle.eta.specs.Shrinking.{Came, ends_in, again}
-use Rattle.eta.specs.Store.{Names, binder_word}
-use Rattle.eta.specs.Shrinks.{StandsFor, Checkable, Ready, Joinable, Joins, Bindable, Rebinds, Binds}
+use Rattle.eta.specs.Store.{Names, binder_word, node_at}
+use Rattle.eta.specs.declared.named.Binder.{Binder}
+use Rattle.eta.specs.declared.named.Node.TheVariants as read
+use Rattle.eta.specs.Shrinks.{StandsFor, Checkable, Contracts, Joinable, Joins, Bindable, Rebinds, Binds}
 use Rattle.eta.specs.declared.shrinking.Shrunk.{Shrunk}
 use Rattle.nodes.proofs.Stored.{Stored}
 use Rattle.eta.proofs.Remade.{binds-stored, joins-stored}
-use Rattle.eta.proofs.Readiness.{ready-place}
+use Rattle.eta.proofs.Parts.{named-abstraction, named-application}
 
 -- AN APPLICATION
 module _ {room : List ℕ} {node : ℕ} {left right : Shrunk} (asked : Joinable room node left right) {some : Bool}
-    (told : some ≡ (left.left || right.left)) {x : ℕ} (pair : x ≡ left.node + 4294967296 * right.node) where
+    (told : some ≡ (left.left || right.left)) where
   -- whichever node joins what the parts came to
   joined : {n next : ℕ} {after : List ℕ}
       → ((l r : Named) → Names room l left.node → Names room r right.node → Names after (joins l r) n)
@@ -36,38 +39,38 @@ module _ {room : List ℕ} {node : ℕ} {left right : Shrunk} (asked : Joinable 
     same = same;
   }
 
-  pub join_stays : x ≡ link room node
+  pub join_stays : node_at room node ≡ read.Application left.node right.node
       → Joins room node left right
       (record { node = node; used = right.used; steps = right.steps; left = some }) room
   unfolding Names
-  join_stays stays =
-      let left_is : link room node % 4294967296 ≡ left.node = omega (arith, asked.left_below, asked.few) in
-      let right_is : link room node / 4294967296 ≡ right.node = omega (arith, asked.left_below, asked.few) in
-      let (kind, left_below, right_below, _, _) = asked.names in
-      joined (λ l r first second. (kind, left_below, right_below, rw left_is first, rw right_is second))
+  join_stays is =
+      let v = named-application room node (joins asked.left_term asked.right_term) is asked.names in
+      let (kind, _, _, _, _) = asked.names in
+      joined (λ l r first second.
+      (kind, rw v.left_is v.left_below, rw v.right_is v.right_below, rw v.left_is first, rw v.right_is second))
       asked.below (omega arith) (omega arith) (same_refl room right.used)
 
-  pub join-made : {next : ℕ} {after : List ℕ} → next ≡ right.used + 1 → Stored room after right.used 3 x
+  pub join-made : {next : ℕ} {after : List ℕ} → next ≡ right.used + 1
+      → Stored room after right.used 3 (left.node + 4294967296 * right.node)
       → Joins room node left right
       (record { node = right.used; used = next; steps = right.steps; left = some }) after
   join-made end new =
       let low : left.node < 4294967296 = omega (arith, asked.left_below, asked.few) in
-      joined (λ l r. joins-stored new l r refl pair low asked.left_below asked.right_below) (omega arith)
+      joined (λ l r. joins-stored new l r refl refl low asked.left_below asked.right_below) (omega arith)
       (omega arith) (omega arith) new.same
 
 -- AN ABSTRACTION
-module _ {room : List ℕ} {node : ℕ} {body : Shrunk} (asked : Bindable room node body) where
+module _ {room : List ℕ} {node : ℕ} {binder : Binder} {body : Shrunk} (asked : Bindable room node binder body) where
   -- whichever node binds what the body came to
   rebound : {left : Bool} {n next : ℕ} {after : List ℕ}
-      → ((k : ℕ) (b : Named) → word room node ≡ binder_word k (lone k b) → Names room b body.node
-      → Names after (binds k b) n)
+      → ((b : Named) → binder.linear ≡ lone binder.level b → Names room b body.node
+      → Names after (binds binder.level b) n)
       → n < next → body.used ≤ next → next ≤ body.used + 1 → Same room after body.used
-      → Rebinds room node body left (record { node = n; used = next; steps = body.steps; left = left }) after
-  unfolding Names
+      → Rebinds room node binder body left (record { node = n; used = next; steps = body.steps; left = left }) after
   rebound whole below grows most same = record {
-    comes = λ k b c h done alike. record {
+    comes = λ b c h linear done alike. record {
       steps = done.steps;
-      names = whole k c.1 (h.0 ∙ ap (binder_word k) (sym alike)) done.names;
+      names = whole c.1 (linear ∙ sym alike) done.names;
       left = refl;
       below = below;
     };
@@ -76,21 +79,24 @@ module _ {room : List ℕ} {node : ℕ} {body : Shrunk} (asked : Bindable room n
     same = same;
   }
 
-  pub rebind_stays : {left : Bool} → body.node ≡ link room node
-      → Rebinds room node body left
+  pub rebind_stays : {left : Bool} → node_at room node ≡ read.Abstraction binder body.node
+      → Rebinds room node binder body left
       (record { node = node; used = body.used; steps = body.steps; left = left }) room
   unfolding Names
-  rebind_stays stays =
-      rebound (λ k b kind part. (kind, asked.names.1, rw (sym stays) part)) asked.below (omega arith) (omega arith)
-      (same_refl room body.used)
+  rebind_stays is =
+      let v = named-abstraction room node (binds binder.level asked.body_term) is asked.names in
+      let stays = asked.names in
+      let at_body : link room node ≡ body.node = v.link_is in
+      rebound (λ b linear part. (rw (sym linear) v.word_is, rw at_body v.below, rw at_body part)) asked.below
+      (omega arith) (omega arith) (same_refl room body.used)
 
   pub rebind-made : {left : Bool} {next : ℕ} {after : List ℕ} → next ≡ body.used + 1
-      → Stored room after body.used (word room node) body.node
-      → Rebinds room node body left
+      → Stored room after body.used (binder_word binder.level binder.linear) body.node
+      → Rebinds room node binder body left
       (record { node = body.used; used = next; steps = body.steps; left = left }) after
   rebind-made end new =
-      rebound (λ k b kind. binds-stored new k b kind asked.stands.below) (omega arith) (omega arith) (omega arith)
-      new.same
+      rebound (λ b linear. binds-stored new binder.level b (ap (binder_word binder.level) linear) asked.stands.below)
+      (omega arith) (omega arith) (omega arith) new.same
 
   pub bind_checks : Checkable room body.node
   bind_checks = record {
@@ -99,50 +105,45 @@ module _ {room : List ℕ} {node : ℕ} {body : Shrunk} (asked : Bindable room n
     inside = omega (arith, asked.stands.below, asked.fits);
   }
 
-  module _ {ready : Bool} (tells : Ready room (word room node) body.node ready) where
-    is-place : (k : ℕ) (b : Named) (c : Came) → Names room (binds k b) node → StandsFor room body c
-        → (lone k b && ends_in k c.1) ≡ ready
-    unfolding Names
-    is-place k b c h done = sym (tells.tells k (lone k b) c.1 h.0 done.names)
-
-    stayed : {limit : ℕ} {left : Bool} {r : Shrunk} {after : List ℕ} → Rebinds room node body left r after
-        → ((k : ℕ) (b : Named) (c : Came) → Names room (binds k b) node → StandsFor room body c
-        → again (may_follow limit) k (lone k b) c ≡ (c.0, binds k c.1, left))
-        → Binds room node body limit r after
+  module _ {found : Option ℕ} (tells : Contracts room binder body.node found) where
+    stayed : {limit : ℕ} {left : Bool} {r : Shrunk} {after : List ℕ} → Rebinds room node binder body left r after
+        → ((b : Named) (c : Came) → binder.linear ≡ lone binder.level b → StandsFor room body c
+        → again (may_follow limit) binder.level (lone binder.level b) c ≡ (c.0, binds binder.level c.1, left))
+        → Binds room node binder body limit r after
     stayed stays told = record {
-      comes = λ k b c h done alike. rw (told k b c h done) (stays.comes k b c h done alike);
+      comes = λ b c h linear done alike. rw (told b c linear done) (stays.comes b c h linear done alike);
       most = stays.most;
       grows = stays.grows;
       same = stays.same;
     }
 
-    pub bind_stays : {limit : ℕ} {r : Shrunk} {after : List ℕ} → ready ≡ false
-        → Rebinds room node body body.left r after → Binds room node body limit r after
-    bind_stays not_ready stays =
-        stayed stays (λ k b c h done. rw (is-place k b c h done ∙ not_ready, done.left))
+    pub bind_stays : {limit : ℕ} {r : Shrunk} {after : List ℕ} → found ≡ None
+        → Rebinds room node binder body body.left r after → Binds room node binder body limit r after
+    bind_stays none stays =
+        stayed stays (λ b c linear done.
+        rw (sym linear, tells.stays none c.1 done.names, done.left))
 
-    pub bind-ends : {limit : ℕ} {r : Shrunk} {after : List ℕ} → ready ≡ true
-        → may_follow limit body.steps ≡ false → Rebinds room node body true r after
-        → Binds room node body limit r after
-    bind-ends {limit} is_ready last stays =
-        stayed stays (λ k b c h done.
+    pub bind-ends : {limit applied : ℕ} {r : Shrunk} {after : List ℕ} → found ≡ Some applied
+        → may_follow limit body.steps ≡ false → Rebinds room node binder body true r after
+        → Binds room node binder body limit r after
+    bind-ends {limit} {applied} some last stays =
+        stayed stays (λ b c linear done.
+        let (place, _, _) = tells.goes applied some c.1 done.names in
         let no_more = ap (may_follow limit) (sym done.steps) ∙ last in
-        rw (is-place k b c h done ∙ is_ready, no_more))
+        rw (sym linear, place, no_more))
 
-    pub bind_goes : {limit applied : ℕ} → ready ≡ true → may_follow limit body.steps ≡ true
-        → applied ≡ link room body.node % 4294967296
-        → Binds room node body limit
+    pub bind_goes : {limit applied : ℕ} → found ≡ Some applied → may_follow limit body.steps ≡ true
+        → Binds room node binder body limit
         (record { node = applied; used = body.used; steps = body.steps + 1; left = body.left }) room
-    bind_goes {limit} is_ready more is_applied = record {
-      comes = λ k b c h done alike.
-          let place = is-place k b c h done ∙ is_ready in
+    bind_goes {limit} {applied} some more = record {
+      comes = λ b c h linear done alike.
+          let (place, below, names) = tells.goes applied some c.1 done.names in
           let one_more = ap (may_follow limit) (sym done.steps) ∙ more in
-          let v = ready-place k (lone k b) c.1 place done.names in
-          rw (place, one_more) (record {
+          rw (sym linear, place, one_more) (record {
             steps = omega (arith, done.steps);
-            names = rw is_applied v.names;
+            names = names;
             left = done.left;
-            below = omega (arith, v.below, done.below);
+            below = omega (arith, below, done.below);
           });
       most = omega arith;
       grows = omega arith;

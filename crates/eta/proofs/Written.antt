@@ -12,14 +12,14 @@ use Rattle.calculus.specs.Bytes.{digits, encode}
 use Rattle.calculus.proofs.Measures.{height_positive}
 use Rattle.calculus.proofs.Sizes.{size, length-encode}
 use Rattle.calculus.proofs.Putting.{Puts, puts_then, puts-length}
-use Rattle.nodes.specs.Packing.{kind_in}
-use Rattle.nodes.specs.Store.{word, link}
 use Rattle.nodes.proofs.Coding.{one_put}
 use Rattle.eta.specs.Named.{Named, place, plain, rise}
 use Rattle.eta.specs.Scope.{Scoped}
-use Rattle.eta.specs.Store.{Names}
+use Rattle.eta.specs.Store.{Names, node_at}
+use Rattle.eta.specs.declared.named.Binder.{Binder}
+use Rattle.eta.specs.declared.named.Node.TheVariants as read
 use Rattle.eta.specs.Writing.{Placed, Writable, Writes}
-use Rattle.eta.proofs.Parts.{named-bound, named-loose, named-abstraction, named-application}
+use Rattle.eta.proofs.Parts.{named-bound, named-free, named-abstraction, named-application}
 use Rattle.eta.proofs.Scoping.{bound-scoped, body-scoped, parts-scoped}
 use Rattle.eta.proofs.Placing.{placed-under, placed-kept}
 
@@ -58,58 +58,58 @@ module _ {room : List ℕ} {node : ℕ} {places : List ℕ} {depth : ℕ} where
     }
 
   -- A BOUND VARIABLE: what stands at its binder's level is how many binders are around that
-  module _ (kind : kind_in (word room node) ≡ 0) where
+  module _ {k : ℕ} (kind : node_at room node ≡ read.Bound k) where
     pub bound_asks : {out : List ℕ} {at : ℕ} → Writable room node out at places depth
-        → (link room node < length places) × (get_or places (link room node) 0 ≤ depth)
+        → (k < length places) × (get_or places k 0 ≤ depth)
     bound_asks asked =
         let now = asked.placed in
         let among = bound-scoped room node asked.term asked.around asked.scoped kind asked.names in (
-          omega (arith, now.rising (link room node) among, now.low),
-          omega (arith, now.placed (link room node) among, asked.deep),
+          omega (arith, now.rising k among, now.low),
+          omega (arith, now.placed k among, asked.deep),
         )
 
-    pub is_bound : IsVariable room node places depth (depth - get_or places (link room node) 0)
+    pub is_bound : IsVariable room node places depth (depth - get_or places k 0)
     unfolding plain
     is_bound = record {
       same = λ t around h sc deep now.
           let among = bound-scoped room node t around sc kind h in
-          let e : place (link room node) around ≡ depth - get_or places (link room node) 0 =
-          omega (arith, now.placed (link room node) among) in
+          let e : place k around ≡ depth - get_or places k 0 =
+          omega (arith, now.placed k among) in
           rw (named-bound room node t kind h) (ap var e);
     }
 
   -- A FREE VARIABLE, or index 0
-  module _ (kind : kind_in (word room node) ≡ 1) where
-    pub is_zero : link room node ≡ 0 → IsVariable room node places depth 0
+  module _ {j : ℕ} (kind : node_at room node ≡ read.Free j) where
+    pub is_zero : j ≡ 0 → IsVariable room node places depth 0
     unfolding plain
     is_zero none = record {
-      same = λ t around h sc deep now. rw (named-loose room node t kind h, eq-eqb (link room node) 0 none);
+      same = λ t around h sc deep now. rw (named-free room node t kind h, eq-eqb j 0 none);
     }
 
-    module _ (some : link room node ≡ 0 → ⊥) where
-      pub is_free : IsVariable room node places depth (link room node + depth)
+    module _ (some : j ≡ 0 → ⊥) where
+      pub is_free : IsVariable room node places depth (j + depth)
       unfolding plain
       is_free = record {
         same = λ t around h sc deep now.
-            let index = ap (λ d. var (link room node + d)) deep in
-            rw (named-loose room node t kind h, ne_eqb (link room node) 0 some) index;
+            let index = ap (λ d. var (j + d)) deep in
+            rw (named-free room node t kind h, ne_eqb j 0 some) index;
       }
 
       pub free_asks : {out : List ℕ} {at : ℕ} → Writable room node out at places depth
-          → link room node + depth ≤ greatest_number
+          → j + depth ≤ greatest_number
       unfolding Scoped
       free_asks asked =
-          let e = named-loose room node asked.term kind asked.names in
-          let low : link room node + length asked.around ≤ greatest_number = rw e at asked.scoped in
+          let e = named-free room node asked.term kind asked.names in
+          let low : j + length asked.around ≤ greatest_number = rw e at asked.scoped in
           omega (arith, asked.deep)
 
-  -- AN ABSTRACTION: its level is in its first number
-  module _ (kind : kind_in (word room node) ≡ 2) where
-    pub body_below : {out : List ℕ} {at : ℕ} → Writable room node out at places depth → link room node < node
+  -- AN ABSTRACTION: at its level is put how many binders are around
+  module _ {binder : Binder} {x : ℕ} (kind : node_at room node ≡ read.Abstraction binder x) where
+    pub body_below : {out : List ℕ} {at : ℕ} → Writable room node out at places depth → x < node
     body_below asked = (named-abstraction room node asked.term kind asked.names).below
 
     pub binder_asks : {out : List ℕ} {at : ℕ} → Writable room node out at places depth
-        → (at + 1 ≤ length out) × (word room node / 8 < length places) × (depth < most_height)
+        → (at + 1 ≤ length out) × (binder.level < length places) × (depth < most_height)
     unfolding size plain rise
     binder_asks asked =
         let v = named-abstraction room node asked.term kind asked.names in
@@ -121,28 +121,28 @@ module _ {room : List ℕ} {node : ℕ} {places : List ℕ} {depth : ℕ} where
         )
 
     pub body_asks : {out : List ℕ} {at : ℕ} → Writable room node out at places depth
-        → Writable room (link room node) (set out at 2) (at + 1) (set places (word room node / 8) depth) (depth + 1)
+        → Writable room x (set out at 2) (at + 1) (set places binder.level depth) (depth + 1)
     unfolding size height plain rise
     body_asks {out} {at} asked =
         let v = named-abstraction room node asked.term kind asked.names in
         let u = body-scoped room node asked.term asked.around asked.scoped kind asked.names in
         let e = ap (plain asked.around) v.same in
-        let inside : v.level < length places = omega (arith, asked.levels, ap rise v.same) in
+        let inside : binder.level < length places = omega (arith, asked.levels, ap rise v.same) in
         record {
           term = v.body;
-          around = v.level ∷ asked.around;
+          around = binder.level ∷ asked.around;
           names = v.names;
           inside = omega (arith, asked.inside, v.below);
           scoped = u.scoped;
           deep = omega (arith, asked.deep);
           low = omega (arith, asked.low, ap height e);
-          placed = rw u.level_is (placed-under v.level u.above inside asked.deep asked.placed);
-          levels = omega (arith, asked.levels, ap rise v.same, length-set places (word room node / 8) depth);
+          placed = placed-under binder.level u.above inside asked.deep asked.placed;
+          levels = omega (arith, asked.levels, ap rise v.same, length-set places binder.level depth);
           fits = omega (arith, asked.fits, ap size e, length-set out at 2);
         }
 
-    pub at_binder : {out : List ℕ} {at to : ℕ} {after places' : List ℕ} → word room node / 8 < length places
-        → Writes room (link room node) (set out at 2) (at + 1) (set places (word room node / 8) depth) (depth + 1) to
+    pub at_binder : {out : List ℕ} {at to : ℕ} {after places' : List ℕ} → binder.level < length places
+        → Writes room x (set out at 2) (at + 1) (set places binder.level depth) (depth + 1) to
         after places'
         → Writes room node out at places depth to after places'
     unfolding encode plain
@@ -150,21 +150,21 @@ module _ {room : List ℕ} {node : ℕ} {places : List ℕ} {depth : ℕ} where
       written = λ t around h sc deep now.
           let v = named-abstraction room node t kind h in
           let u = body-scoped room node t around sc kind h in
-          let put = writes.written v.body (v.level ∷ around) v.names u.scoped (omega arith)
-          (rw u.level_is (placed-under v.level u.above (omega (arith, u)) deep now)) in
-          rw v.same (puts_then (2 ∷ []) (encode (plain (v.level ∷ around) v.body)) (one_put 2 refl) put);
+          let put = writes.written v.body (binder.level ∷ around) v.names u.scoped (omega arith)
+          ((placed-under binder.level u.above (omega (arith, u)) deep now)) in
+          rw v.same (puts_then (2 ∷ []) (encode (plain (binder.level ∷ around) v.body)) (one_put 2 refl) put);
       kept = λ t around h sc k lt.
           let v = named-abstraction room node t kind h in
           let u = body-scoped room node t around sc kind h in
-          writes.kept v.body (v.level ∷ around) v.names u.scoped k (omega (arith, u))
-          ∙ get_or-set_other places (word room node / 8) k depth 0 (λ e. omega (arith, u));
-      as_long = writes.as_long ∙ length-set places (word room node / 8) depth;
+          writes.kept v.body (binder.level ∷ around) v.names u.scoped k (omega (arith, u))
+          ∙ get_or-set_other places binder.level k depth 0 (λ e. omega (arith, u));
+      as_long = writes.as_long ∙ length-set places binder.level depth;
     }
 
   -- AN APPLICATION
-  module _ (kind : kind_in (word room node) ≡ 3) where
+  module _ {l r : ℕ} (kind : node_at room node ≡ read.Application l r) where
     pub application_asks : {out : List ℕ} {at : ℕ} → Writable room node out at places depth
-        → (at + 1 ≤ length out) × (link room node % 4294967296 < node) × (link room node / 4294967296 < node)
+        → (at + 1 ≤ length out) × (l < node) × (r < node)
     unfolding size plain
     application_asks asked =
         let v = named-application room node asked.term kind asked.names in
@@ -172,7 +172,7 @@ module _ {room : List ℕ} {node : ℕ} {places : List ℕ} {depth : ℕ} where
         (omega (arith, asked.fits, ap size e), v.left_below, v.right_below)
 
     pub left_asks : {out : List ℕ} {at : ℕ} → Writable room node out at places depth
-        → Writable room (link room node % 4294967296) (set out at 3) (at + 1) places depth
+        → Writable room l (set out at 3) (at + 1) places depth
     unfolding size height plain rise
     left_asks {out} {at} asked =
         let v = named-application room node asked.term kind asked.names in
@@ -192,9 +192,9 @@ module _ {room : List ℕ} {node : ℕ} {places : List ℕ} {depth : ℕ} where
         }
 
     module _ {out : List ℕ} {at next : ℕ} {mid places₁ : List ℕ}
-        (first : Writes room (link room node % 4294967296) (set out at 3) (at + 1) places depth next mid places₁) where
+        (first : Writes room l (set out at 3) (at + 1) places depth next mid places₁) where
       pub right_asks : Writable room node out at places depth
-          → Writable room (link room node / 4294967296) mid next places₁ depth
+          → Writable room r mid next places₁ depth
       unfolding size height plain rise
       right_asks asked =
           let around = asked.around in
@@ -225,19 +225,19 @@ module _ {room : List ℕ} {node : ℕ} {places : List ℕ} {depth : ℕ} where
           }
 
       pub at_application : {to : ℕ} {after places₂ : List ℕ}
-          → Writes room (link room node / 4294967296) mid next places₁ depth to after places₂
+          → Writes room r mid next places₁ depth to after places₂
           → Writes room node out at places depth to after places₂
       unfolding encode plain
       at_application second = record {
         written = λ t around h sc deep now.
             let v = named-application room node t kind h in
             let (left_scoped, right_scoped) = parts-scoped room node t around sc kind h in
-            let l = encode (plain around v.left) in
-            let r = encode (plain around v.right) in
+            let l_bytes = encode (plain around v.left) in
+            let r_bytes = encode (plain around v.right) in
             let left_put = first.written v.left around v.left_names left_scoped deep now in
             let still = placed-kept first.as_long (first.kept v.left around v.left_names left_scoped) now in
             let right_put = second.written v.right around v.right_names right_scoped deep still in
-            rw v.same (puts_then (3 ∷ []) (l ++ r) (one_put 3 refl) (puts_then l r left_put right_put));
+            rw v.same (puts_then (3 ∷ []) (l_bytes ++ r_bytes) (one_put 3 refl) (puts_then l_bytes r_bytes left_put right_put));
         kept = λ t around h sc k lt.
             let v = named-application room node t kind h in
             let (left_scoped, right_scoped) = parts-scoped room node t around sc kind h in

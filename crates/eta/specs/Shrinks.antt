@@ -1,11 +1,12 @@
 -- What shrinking a named term asks and gives.
-use Rattle.std.specs.Prelude.{ℕ, ◌+◌, ◌*◌, ◌≤◌, ◌<◌, ◌≡◌, Bool, ◌&&◌, List, length}
+use Rattle.std.specs.Prelude.{ℕ, ◌+◌, ◌*◌, ◌≤◌, ◌<◌, ◌≡◌, Bool, true, false, ◌&&◌, Option, Some, None, List, length}
 use Rattle.calculus.specs.Bounds.{most_nodes}
 use Rattle.calculus.specs.Eta.{may_follow}
 use Rattle.nodes.specs.Store.{Same}
 use Rattle.eta.specs.Named.{Named, binds, joins, weight, lone}
-use Rattle.eta.specs.Shrinking.{Came, shrunk, again, beside, ends_in}
-use Rattle.eta.specs.Store.{Names, binder_word}
+use Rattle.eta.specs.Shrinking.{Came, shrunk, again, beside, ends_in, applied}
+use Rattle.eta.specs.Store.{Names}
+use Rattle.eta.specs.declared.named.Binder.{Binder}
 use Rattle.eta.specs.declared.shrinking.Shrunk.{Shrunk}
 
 -- a node that is some named term, with room for as many nodes again
@@ -24,15 +25,17 @@ pub record StandsFor (room : List ℕ) (r : Shrunk) (c : Came) : Type 0 where
   pub left : r.left ≡ c.2
   pub below : r.node < r.used
 
--- A NODE THAT MAY BE A BODY, held against an abstraction's first number
+-- A NODE THAT MAY BE A BODY, held against an abstraction's binder
 pub record Checkable (room : List ℕ) (body : ℕ) : Type 0 where
   pub term : Named
   pub names : Names room term body
   pub inside : 2 * body + 2 ≤ length room
 
-pub record Ready (room : List ℕ) (w body : ℕ) (r : Bool) : Type 0 where
-  pub tells : (k : ℕ) (alone : Bool) (b : Named) → w ≡ binder_word k alone → Names room b body
-      → r ≡ (alone && ends_in k b)
+-- a place leaves what its body applies, and no other abstraction leaves anything
+pub record Contracts (room : List ℕ) (binder : Binder) (body : ℕ) (r : Option ℕ) : Type 0 where
+  pub goes : (m : ℕ) → r ≡ Some m → (b : Named) → Names room b body
+      → ((binder.linear && ends_in binder.level b) ≡ true) × (m < body) × Names room (applied b) m
+  pub stays : r ≡ None → (b : Named) → Names room b body → (binder.linear && ends_in binder.level b) ≡ false
 
 -- AN APPLICATION whose parts are done
 pub record Joinable (room : List ℕ) (node : ℕ) (left right : Shrunk) : Type 0 where
@@ -52,10 +55,10 @@ pub record Joins (before : List ℕ) (node : ℕ) (left right r : Shrunk) (after
   pub same : Same before after right.used
 
 -- AN ABSTRACTION whose body is done
-pub record Bindable (room : List ℕ) (node : ℕ) (body : Shrunk) : Type 0 where
-  pub level : ℕ
+pub record Bindable (room : List ℕ) (node : ℕ) (binder : Binder) (body : Shrunk) : Type 0 where
   pub body_term : Named
-  pub names : Names room (binds level body_term) node
+  pub names : Names room (binds binder.level body_term) node
+  pub packable : binder.level < 2305843009213693952
   pub came : Came
   pub stands : StandsFor room body came
   pub below : node < body.used
@@ -64,21 +67,21 @@ pub record Bindable (room : List ℕ) (node : ℕ) (body : Shrunk) : Type 0 wher
   pub counted : body.steps ≤ 4 * most_nodes
 
 -- it stays
-pub record Rebinds (before : List ℕ) (node : ℕ) (body : Shrunk) (left : Bool) (r : Shrunk) (after : List ℕ) :
-    Type 0 where
-  pub comes : (k : ℕ) (b : Named) (c : Came) → Names before (binds k b) node → StandsFor before body c
-      → lone k c.1 ≡ lone k b
-      → StandsFor after r (c.0, binds k c.1, left)
+pub record Rebinds (before : List ℕ) (node : ℕ) (binder : Binder) (body : Shrunk) (left : Bool) (r : Shrunk)
+    (after : List ℕ) : Type 0 where
+  pub comes : (b : Named) (c : Came) → Names before (binds binder.level b) node → binder.linear ≡ lone binder.level b
+      → StandsFor before body c → lone binder.level c.1 ≡ lone binder.level b
+      → StandsFor after r (c.0, binds binder.level c.1, left)
   pub most : r.used ≤ body.used + 1
   pub grows : body.used ≤ r.used
   pub same : Same before after body.used
 
 -- it stays or goes
-pub record Binds (before : List ℕ) (node : ℕ) (body : Shrunk) (limit : ℕ) (r : Shrunk) (after : List ℕ) :
-    Type 0 where
-  pub comes : (k : ℕ) (b : Named) (c : Came) → Names before (binds k b) node → StandsFor before body c
-      → lone k c.1 ≡ lone k b
-      → StandsFor after r (again (may_follow limit) k (lone k b) c)
+pub record Binds (before : List ℕ) (node : ℕ) (binder : Binder) (body : Shrunk) (limit : ℕ) (r : Shrunk)
+    (after : List ℕ) : Type 0 where
+  pub comes : (b : Named) (c : Came) → Names before (binds binder.level b) node → binder.linear ≡ lone binder.level b
+      → StandsFor before body c → lone binder.level c.1 ≡ lone binder.level b
+      → StandsFor after r (again (may_follow limit) binder.level (lone binder.level b) c)
   pub most : r.used ≤ body.used + 1
   pub grows : body.used ≤ r.used
   pub same : Same before after body.used

@@ -1,6 +1,7 @@
 // Eta of a coded term: the steps made, whether a place is left, and the bytes of the term reached.
 #![tactic(auto)]
 
+mod named;
 mod naming;
 mod shrinking;
 mod writing;

@@ -1,29 +1,14 @@
 // A coded term loaded so that its variables name their binders, with what eta asks of each abstraction.
-ghost use Rattle.std.specs.Prelude.{◌≡◌, ◌&&◌, not, ◌+◌, ◌*◌, ◌≤◌, ◌<◌, eqb, length};
+ghost use Rattle.std.specs.Prelude.{◌≡◌, ◌+◌, ◌*◌, ◌≤◌, length};
 ghost use Rattle.calculus.specs.Term.{var};
 ghost use Rattle.calculus.specs.Bounds.{most_height};
 ghost use Rattle.nodes.specs.Store.{Same};
 ghost use Rattle.eta.specs.Named.{named};
-ghost use Rattle.eta.specs.Store.{Names, binder_word};
+ghost use Rattle.eta.specs.Store.{Names};
 ghost use Rattle.eta.specs.Naming.{Counts, Countable, Nameable, Reads};
 
+use crate::named::{Binder, Node, put_named};
 use term::Head;
-
-// The kinds of nodes: a variable that a binder binds, one that none does, an abstraction, an application.
-const BOUND: u64 = 0;
-
-const LOOSE: u64 = 1;
-
-const BINDS: u64 = 2;
-
-pub(crate) const JOINS: u64 = 3;
-
-// In an abstraction's first number: a lone binder adds this much, and each level of it that much.
-pub(crate) const LONE: u64 = 4;
-
-pub(crate) const LEVEL: u64 = 8;
-
-const LONE_BINDS: u64 = 6;
 
 // The offset after a term, the number of the next node (the term is the one before it), and whether index 0 is in it.
 #[derive(Clone, Copy)]
@@ -31,21 +16,6 @@ pub(crate) struct Read {
     pub(crate) next: usize,
     pub(crate) used: usize,
     pub(crate) zero: bool,
-}
-
-// An abstraction's first number: its binder is lone if it is named once and index 0 is not in the body.
-#[tactic(auto, using(nodes::proofs::Making::number_tests))]
-fn binder_word(level: usize, count: u64, zero: bool) -> u64
-    requires { level < most_height }
-    ensures { result ≡ binder_word level (eqb count 1 && not zero) }
-{
-    if count != 1 {
-        return BINDS + LEVEL * (level as u64);
-    }
-    if zero {
-        return BINDS + LEVEL * (level as u64);
-    }
-    LONE_BINDS + LEVEL * (level as u64)
 }
 
 // A variable under so many binders; the one that binds it is counted.
@@ -56,15 +26,15 @@ fn name(room: &mut [u64], used: usize, counts: &mut [u64], depth: usize, index: 
         × Counts counts.old counts.new depth (named depth (var index)) }
 {
     if index == 0 {
-        return nodes::put(room, used, LOOSE, 0);
+        return put_named(room, used, Node::Free(0));
     }
     let around = depth as u64;
     if around < index {
-        return nodes::put(room, used, LOOSE, index - around);
+        return put_named(room, used, Node::Free(index - around));
     }
-    let level = around - index;
-    counts[level as usize] += 1;
-    nodes::put(room, used, BOUND, level)
+    let level = depth - index as usize;
+    counts[level] += 1;
+    put_named(room, used, Node::Bound(level))
 }
 
 // The term whose bytes stand at an offset, under so many binders, made of new nodes.
@@ -90,22 +60,28 @@ pub(crate) fn load(
         Head::Abstraction => {
             counts[depth] = 0;
             let body = load(s, at + 1, room, used, counts, depth + 1);
-            let top = body.used;
-            let w = binder_word(depth, counts[depth], body.zero);
+            let once = counts[depth] == 1;
+            let linear = once && !body.zero;
+            let binder = Binder {
+                level: depth,
+                linear,
+            };
+            let node = Node::Abstraction(binder, body.used - 1);
             Read {
                 next: body.next,
-                used: nodes::put(room, top, w, (top - 1) as u64),
+                used: put_named(room, body.used, node),
                 zero: body.zero,
             }
         }
         Head::Application => {
             let left = load(s, at + 1, room, used, counts, depth);
             let right = load(s, left.next, room, left.used, counts, depth);
-            let top = right.used;
+            let node = Node::Application(left.used - 1, right.used - 1);
+            let zero = left.zero || right.zero;
             Read {
                 next: right.next,
-                used: nodes::put(room, top, JOINS, nodes::pair(left.used - 1, top - 1)),
-                zero: term::either(left.zero, right.zero),
+                used: put_named(room, right.used, node),
+                zero,
             }
         }
     }

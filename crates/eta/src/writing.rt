@@ -5,7 +5,7 @@ ghost use Rattle.calculus.specs.Bytes.{encode};
 ghost use Rattle.calculus.proofs.Putting.{Puts};
 ghost use Rattle.eta.specs.Writing.{Writable, Writes};
 
-use crate::naming::LEVEL;
+use crate::named::{Node, named_at};
 
 // Kind 1 and the eight bytes of the index.
 fn write_variable(out: &mut [u8], at: usize, index: u64) -> usize
@@ -29,24 +29,19 @@ pub(crate) fn write(
     ensures { Writes room.now node out.old at places.old depth result
         out.new places.new }
 {
-    let w = room[2 * node];
-    let x = room[2 * node + 1];
-    let kind = nodes::kind_of(w);
-    if kind == 0 {
-        return write_variable(out, at, depth - places[x as usize]);
-    }
-    if kind == 1 {
-        if x == 0 {
-            return write_variable(out, at, 0);
+    match named_at(room, node) {
+        Node::Bound(level) => write_variable(out, at, depth - places[level]),
+        Node::Free(0) => write_variable(out, at, 0),
+        Node::Free(number) => write_variable(out, at, number + depth),
+        Node::Abstraction(binder, body) => {
+            out[at] = 2;
+            places[binder.level] = depth;
+            write(room, body, out, at + 1, places, depth + 1)
         }
-        return write_variable(out, at, x + depth);
+        Node::Application(left, right) => {
+            out[at] = 3;
+            let next = write(room, left, out, at + 1, places, depth);
+            write(room, right, out, next, places, depth)
+        }
     }
-    if kind == 2 {
-        out[at] = 2;
-        places[(w / LEVEL) as usize] = depth;
-        return write(room, x as usize, out, at + 1, places, depth + 1);
-    }
-    out[at] = 3;
-    let next = write(room, nodes::left_of(x), out, at + 1, places, depth);
-    write(room, nodes::right_of(x), out, next, places, depth)
 }

@@ -1,13 +1,14 @@
 -- `eta::shrinking::rebind` meets its contract.
-use native.Mathlib.Omega.{arith}
-use Rattle.nodes.proofs.Stored.{stored}
+use mathlib.Core.Path.{◌≡◌, sym, ◌∙◌}
+use borrow.Author.Rules.{rules}
+use Rattle.eta.specs.declared.named.Node.TheVariants as read
 use Rattle.eta.proofs.Remaking.{rebind_stays, rebind-made}
 use Rattle.eta.proofs.shrinking.rebind.Goals as goal
 
-pub returns-then-link-room : goal.returns-then-link-room
-returns-then-link-room c = rebind_stays c.requires c.if-link-room.true
+pub returns-then-eq : goal.returns-then-eq
+returns-then-eq c =
+    let same : c.named_at.result ≡ read.Abstraction c.args.binder c.args.body.node = search rules in
+    rebind_stays c.requires (sym c.named_at.ensures.read ∙ same)
 
 pub returns : goal.returns
-returns c =
-    let (next, put) = c.put-next.ensures in
-    rebind-made c.requires next (stored _ _ _ _ (omega (arith, c.requires.fits)) put)
+returns c = let (next, new) = c.put_named.ensures in rebind-made c.requires next new
