@@ -32,11 +32,6 @@ kept_set xs count w = record {
   kept = λ k lt. get_or-set_other xs count k w None (λ e. omega arith);
 }
 
--- what is none of the values is none
-pub only_none : {A : Type 0} (o : Option A) → ((x : A) → o ≡ Some x → ⊥) → o ≡ None
-only_none None h = refl
-only_none (Some x) h = absurd (h x refl)
-
 pub opens-length : (s : List ℕ) (xs : List (Option Binder)) (count : ℕ) → length (opens s xs count) ≡ count
 unfolding opens
 opens-length s xs zero = refl

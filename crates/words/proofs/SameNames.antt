@@ -3,6 +3,7 @@ use Rattle.std.specs.Prelude.{ℕ, zero, suc, ◌-◌, ◌<◌, ◌≡◌, Bool,
 use Rattle.std.proofs.Common.{refl, sym, ap, ◌∙◌, ◌&&◌, arith}
 use lib.Dec.{eqb}
 use lib.Pointwise.{pointwise}
+use borrow.Author.Tests.{ne_eqb}
 use Rattle.calculus.specs.Characters.{characters, bytes, same_text}
 use Rattle.calculus.proofs.Names.{same_text-refl, same_text→eq}
 use Rattle.calculus.proofs.Tests.{is_false}
@@ -18,6 +19,13 @@ same_text-pointwise [] [] = refl
 same_text-pointwise [] (y ∷ ys) = refl
 same_text-pointwise (x ∷ xs) [] = refl
 same_text-pointwise (x ∷ xs) (y ∷ ys) = ap (λ b. eqb x y && b) (same_text-pointwise xs ys)
+
+heads_differ : (xs ys : List ℕ) → (get_or xs 0 0 ≡ get_or ys 0 0 → ⊥) → false ≡ same_text xs ys
+unfolding same_text
+heads_differ [] [] n = absurd (n refl)
+heads_differ [] (y ∷ ys) n = refl
+heads_differ (x ∷ xs) [] n = refl
+heads_differ (x ∷ xs) (y ∷ ys) n = rw (ne_eqb x y n)
 
 -- the bytes of a name
 abbrev bytes_at : List ℕ → Name → List ℕ
@@ -48,3 +56,7 @@ module _ {s : List ℕ} (clean : Clean s) where
           let alike : bytes_at s x ≡ bytes_at s y =
           sym (bytes-name x) ∙ ap bytes (same_text→eq (name_of s x) (name_of s y) same) ∙ bytes-name y in
           true≢false (sym (same_text-refl (bytes_at s y)) ∙ rw alike at e)))
+
+  pub other-names : (x y : Name) → (get_or (bytes_at s x) 0 0 ≡ get_or (bytes_at s y) 0 0 → ⊥)
+      → false ≡ same_text (name_of s x) (name_of s y)
+  other-names x y n = heads_differ (bytes_at s x) (bytes_at s y) n ∙ same-names x y

@@ -1,7 +1,7 @@
 -- `parser::sequences::sequence` and `group` meet their contracts, each turn by a law. The text that remains falls.
 use Rattle.std.proofs.lemmas.Result.{err_from_is_err_and}
 use native.Mathlib.Omega.{arith}
-use Rattle.parser.proofs.Openings.{only_none}
+use Rattle.words.proofs.Tables.{only_none}
 use Rattle.parser.proofs.Meeting.{met-as, met-refused}
 use Rattle.parser.proofs.Turns.{at_first, variable-read, closed-here, ended_here, refused_here}
 use Rattle.parser.proofs.Turns.{few_used, roomy-here, enclosable-here, opened-here, ready-inside}
