@@ -1,2 +1,2 @@
--- What a read brought.
-pub mod Coming
+-- What reading brings.
+mod Filling

@@ -1,7 +1,9 @@
 // Around the program's work: standard input is read, marked, and the answer written to standard output.
 #![tactic(auto)]
 
-ghost use Rattle.serving.specs.Reading.{Comes, Fills};
+ghost use Rattle.std.specs.Prelude.{◌<◌, length, take, IfOk};
+ghost use Rattle.std.specs.Io.{ReadsAtMost};
+ghost use Rattle.std.specs.Io.KnownBytes.{Consumes, IsAtEnd};
 
 use marking::MOST_OUTPUT;
 use std::io;
@@ -10,50 +12,22 @@ use std::io::Read;
 // One byte more than the program takes, so that too many are seen.
 const INPUT: usize = 65537;
 
-// What one read brought.
-#[derive(Clone, Copy)]
-enum Came {
-    Bytes(usize),
-    End,
-    Failure,
-}
-
-// How far reading filled a buffer.
-#[derive(Clone, Copy)]
-enum Filled {
-    Bytes(usize),
-    Failure,
-}
-
-fn read_some<R: Read>(reader: &mut R, buf: &mut [u8]) -> Came
-    ensures { Comes result buf.new }
+// What the reader has, as far as there is room for it, and how many bytes that is. A read may bring less than there is,
+// so reading goes on until the buffer is full or the input ends; an error ends it, whatever came before.
+pub fn read_full<R: Read>(reader: &mut R, buf: &mut [u8]) -> io::Result<usize>
+    ensures bound { ReadsAtMost result buf.new }
+    ensures bytes { IfOk result (λ n. Consumes (R.remaining reader.old) (R.remaining reader.new) (take n buf.new)) }
+    ensures end { IfOk result (λ n. n < length buf.new → IsAtEnd (R.remaining reader.new)) }
 {
-    match reader.read(buf) {
-        Err(_) => Came::Failure,
-        Ok(0) => Came::End,
-        Ok(count) => Came::Bytes(count),
-    }
-}
-
-// A read may bring less than there is, so reading goes on until the buffer is full or the input ends.
-fn read_all<R: Read>(reader: &mut R, buf: &mut [u8]) -> Filled
-    ensures { Fills result buf.new }
-{
-    let mut done: usize = 0;
+    let mut done = 0;
     while done < buf.len() {
-        match read_some(reader, &mut buf[done..]) {
-            Came::Failure => return Filled::Failure,
-            Came::End => return Filled::Bytes(done),
-            Came::Bytes(count) => {
-                done += count;
-            }
+        let count = reader.read(&mut buf[done..])?;
+        if count == 0 {
+            return Ok(done);
         }
+        done += count;
     }
-    Filled::Bytes(done)
-}
-
-fn complain(rt: &impl Eprint, why: &str) -> io::Result<()> {
-    rt.eprint(why)
+    Ok(done)
 }
 
 fn answer(rt: &(impl Print + Eprint), input: &[u8]) -> io::Result<()> {
@@ -61,15 +35,15 @@ fn answer(rt: &(impl Print + Eprint), input: &[u8]) -> io::Result<()> {
     let length = marking::mark(input, &mut out);
     match rt.write_all(&out[..length]) {
         Ok(()) => Ok(()),
-        Err(_) => complain(rt, "mark: the answer could not be written\n"),
+        Err(_) => eprintln!(rt; "mark: the answer could not be written"),
     }
 }
 
 // An input that cannot be read to its end is not answered.
 pub fn serve(rt: &(impl Input + Print + Eprint)) -> io::Result<()> {
     let mut input = [0u8; INPUT];
-    match read_all(&mut rt.reader(), &mut input) {
-        Filled::Failure => complain(rt, "mark: the input could not be read\n"),
-        Filled::Bytes(length) => answer(rt, &input[..length]),
+    match read_full(&mut rt.reader(), &mut input) {
+        Ok(length) => answer(rt, &input[..length]),
+        Err(_) => eprintln!(rt; "mark: the input could not be read"),
     }
 }

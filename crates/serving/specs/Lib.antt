@@ -1,2 +1,0 @@
--- How many bytes reading brings.
-pub mod Reading
