@@ -90,13 +90,7 @@ fn contract_levels(
 }
 
 // All that comes after 1 and 2: the input's refusals, then the steps.
-fn work(
-    cap: usize,
-    limit: u64,
-    s: &[u8],
-    out: &mut [u8],
-    store: &mut [u64],
-) -> Result<Run, Stopped>
+fn work(cap: usize, limit: u64, s: &[u8], out: &mut [u8], store: &mut [u64]) -> Result<Run, Stopped>
     requires { Lent cap out.old store.old }
     ensures { Works (stored_run (run_on (checked cap s.now) (eta limit)) out.old)
         store.old (run_told result) out.new store.new }
@@ -106,13 +100,7 @@ fn work(
 }
 
 // 1, 2, then the work, after which the room is cleared. Limit 0 is none.
-pub fn eta(
-    limit: u64,
-    cap: u64,
-    s: &[u8],
-    out: &mut [u8],
-    room: &mut [u64],
-) -> Result<Run, Stopped>
+pub fn eta(limit: u64, cap: u64, s: &[u8], out: &mut [u8], room: &mut [u64]) -> Result<Run, Stopped>
     ensures { (run_told result, out.new, room.new)
         ≡ eta_of limit cap s.now out.old room.old }
 {

@@ -19,7 +19,7 @@ passes c = granted _ _ _ c.grant.ensures c.in_ok-most.was
 
 pub returns-in_err-most : goal.returns-in_err-most
 unfolding run_told
-returns-in_err-most c = 
+returns-in_err-most c =
     let p = err_from_is_err_and c.from_residual.result c.from_residual.ensures.1 in
     rw (p.1, p.2) (not_granted _ _ _ (refused_after 0) _ c.grant.ensures c.in_err-most.was ∙ sym (eta_lent _ _ _ _ _))
 
@@ -42,7 +42,7 @@ clear-requires c =
     (few, omega arith)
 
 pub returns : goal.returns
-returns c = 
+returns c =
     let a = c.args in
     answered _ _ _ (passes (goal.at.returns c).In_ok-most) (refused_after 0)
     (λ cap. stored_run (run_on (checked cap a.s.now) (eta a.limit)) a.out.now) c.work-answer.ensures c.clear.ensures

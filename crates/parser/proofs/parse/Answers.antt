@@ -18,7 +18,7 @@ passes : (c : In_ok-most) → let start = c.args in
 passes c = granted _ _ _ c.grant.ensures c.in_ok-most.was
 
 pub returns-in_err-most : goal.returns-in_err-most
-returns-in_err-most c = 
+returns-in_err-most c =
     let p = err_from_is_err_and c.from_residual.result c.from_residual.ensures.1 in
     rw (p.1, p.2) (not_granted _ _ _ refused _ c.grant.ensures c.in_err-most.was ∙ sym (parse_lent _ _ _ _ _))
 
@@ -41,7 +41,7 @@ clear-requires c =
     (few, omega arith)
 
 pub returns : goal.returns
-returns c = 
+returns c =
     let a = c.args in
     answered _ _ _ (passes (goal.at.returns c).In_ok-most) refused
     (λ cap. stored (read_text (notation_of a.notation) cap a.text.now then coded) a.out.now) c.read-answer.ensures
