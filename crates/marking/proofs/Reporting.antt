@@ -21,7 +21,8 @@ use Rattle.calculus.specs.Program.{report, refused_line}
 use Rattle.calculus.proofs.Putting.{Puts}
 use Rattle.term.specs.Answers.{refusal_of}
 use Rattle.term.specs.declared.Refusal.{Refusal}
-use Rattle.nodes.specs.Answers.{run_told}
+use Rattle.nodes.specs.Answers.{ended, run_told}
+use Rattle.nodes.specs.declared.runs.End.{End}
 use Rattle.std.specs.Prelude.{Result, Ok, Err}
 use Rattle.nodes.specs.declared.runs.End.TheVariants.{Finished, Unfinished}
 use Rattle.nodes.specs.declared.runs.Run as answer
@@ -89,14 +90,14 @@ module _ (o : Order) (limit : ℕ) (s out room : List ℕ) (allowed : limit_allo
 
   module _ {r : Result answer.Run Stopped} {after left : List ℕ}
       (says : (run_told r, after, left) ≡ reduce_of o limit program_cap s out room) where
-    module _ {reached : answer.Run} (is : r ≡ Ok reached) where
-      pub finished_at : reached.end ≡ Finished → Found run (finished reached.steps) reached.length after
-      unfolding run_told
-      finished_at end = found-finished (rw (is, end) at (answered says))
-
-      pub unfinished_at : reached.end ≡ Unfinished → Found run (unfinished reached.steps) reached.length after
-      unfolding run_told
-      unfinished_at end = found-unfinished (rw (is, end) at (answered says))
+    pub found_at : {reached : answer.Run} → r ≡ Ok reached
+        → Found run (ended reached.end reached.steps) reached.length after
+    unfolding run_told
+    found_at {reached} is = by_end reached.end refl
+      where
+        by_end : (end : End) → reached.end ≡ end → Found run (ended reached.end reached.steps) reached.length after
+        by_end Finished e = rw e (found-finished (rw (is, e) at (answered says)))
+        by_end Unfinished e = rw e (found-unfinished (rw (is, e) at (answered says)))
 
     pub refused_at : {stopped : Stopped} → r ≡ Err stopped → run ≡ refused_after stopped.steps (refusal_of stopped.why)
     unfolding run_told
