@@ -1,4 +1,4 @@
--- What the answers of `grant` and of runs mean by document 01.
+-- What the answers of `grant` and of runs mean.
 use Rattle.std.specs.Prelude.{ℕ, ◌*◌, ◌&&◌, leb, Result, Ok, Err}
 use Rattle.calculus.specs.Bounds.{output_per_node, room_per_node}
 use Rattle.calculus.specs.Refusal.{Answer, ◌then◌, kept_if, outside_bounds, too_little_room}

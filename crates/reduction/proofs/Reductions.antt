@@ -115,13 +115,6 @@ pub input-stops : (o : Order) (limit cap : ℕ) (s : List ℕ) {out store store'
 unfolding reduced
 input-stops o limit cap s why long e = input_refused cap s (calculus.run (judge cap) o limit) why long e
 
--- THE LIMIT
-pub no-limit : {limit : ℕ} → limit < 1 → false ≡ limit_allowed limit
-no-limit {limit} h = rw (lt-leb 1 limit h)
-
-pub some-limit : {limit : ℕ} → 1 ≤ limit → leb limit most_steps ≡ limit_allowed limit
-some-limit {limit} h = rw (le-leb 1 limit h)
-
 -- 1 AND 2, and the work after them
 module _ (o : Order) (limit cap : ℕ) (s out room : List ℕ) where
   pub limit-refused : limit_allowed limit ≡ false

@@ -62,10 +62,7 @@ fn work(
 pub fn allowed(limit: u64) -> bool
     ensures { result ≡ limit_allowed limit }
 {
-    if limit < 1 {
-        return false;
-    }
-    limit <= MOST_STEPS
+    (1..=MOST_STEPS).contains(&limit)
 }
 
 // 1, 2, then the work, after which the room is cleared.
