@@ -1,12 +1,12 @@
 -- From the named term to what `eta` answers: the input's refusals, the run, and 1 and 2 before.
-use Prim.Native.Nat.{ℕ, ◌-◌, ◌*◌, ◌≤◌, ◌<◌}
+use Prim.Native.Nat.{ℕ, ◌-◌, ◌≤◌, ◌<◌}
 use mathlib.Core.Path.{◌≡◌, refl, sym, ap, ◌∙◌}
 use mathlib.Core.Bool.{Bool, true, false, cond}
-use mathlib.Core.List.{List, [], ◌++◌}
+use mathlib.Core.List.{List, []}
 use native.Mathlib.Omega.{arith}
-use lib.ListN.{length, take, drop}
+use lib.ListN.{length}
 use Rattle.calculus.specs.Term.{Term, nodes, height}
-use Rattle.calculus.specs.Bounds.{most_height, room_per_node}
+use Rattle.calculus.specs.Bounds.{most_height}
 use Rattle.calculus.specs.Bytes.{encode}
 use Rattle.calculus.specs.Runs.{finished, unfinished, refused_after}
 use Rattle.calculus.specs.Eta.{eta, may_follow, eta_from}
@@ -23,7 +23,7 @@ use Rattle.term.specs.Answers.{told, check_of}
 use Rattle.term.specs.FactsOf.{facts_of}
 use Rattle.term.specs.Surveys.{Admitted}
 use Rattle.term.specs.declared.Facts.{Facts}
-use Rattle.std.specs.Prelude.{Result, Ok, Err}
+use Rattle.std.specs.Prelude.{Result, Ok}
 use Rattle.term.specs.declared.Refusal.{Refusal}
 use Rattle.term.proofs.Checking.{check-whole, check_admits}
 use Rattle.term.proofs.Places.{size-within}

@@ -20,7 +20,6 @@ use Rattle.calculus.specs.Outcomes.{checked, laid_over, stored_run, limit_allowe
 use Rattle.calculus.specs.Program.{report, refused_line}
 use Rattle.calculus.proofs.Putting.{Puts}
 use Rattle.term.specs.Answers.{refusal_of}
-use Rattle.term.specs.declared.Refusal.{Refusal}
 use Rattle.nodes.specs.Answers.{ended, run_told}
 use Rattle.nodes.specs.declared.runs.End.{End}
 use Rattle.std.specs.Prelude.{Result, Ok, Err}

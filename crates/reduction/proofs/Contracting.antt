@@ -27,7 +27,7 @@ use Rattle.substitution.specs.Placing.{Placeable, Places}
 use Rattle.substitution.specs.Weighing.{Weighable, Weighs}
 use Rattle.substitution.specs.Raising.{Made}
 use Rattle.substitution.specs.declared.weighing.Weight.{Weight}
-use Rattle.std.specs.Prelude.{Result, Ok, Err}
+use Rattle.std.specs.Prelude.{Ok, Err}
 use Rattle.nodes.specs.Working.{Works}
 use Rattle.reduction.specs.Applying.{Contractible, Contracts}
 

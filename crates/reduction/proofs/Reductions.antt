@@ -1,14 +1,11 @@
 -- What `reduce` answers: the input's refusals, how the steps end, and 1 and 2 before.
-use Prim.Native.Nat.{ℕ, ◌*◌, ◌≤◌, ◌<◌}
+use Prim.Native.Nat.{ℕ}
 use mathlib.Core.Path.{◌≡◌, ◌∙◌}
 use mathlib.Core.Bool.{true, false}
 use mathlib.Core.List.{List}
 use native.Mathlib.Omega.{arith}
-use lib.Dec.{leb}
 use lib.ListN.{length}
-use borrow.Author.Tests.{le-leb, lt-leb}
 use Rattle.calculus.specs.Term.{Term}
-use Rattle.calculus.specs.Bounds.{most_steps}
 use Rattle.calculus.specs.Judging.{judge}
 use Rattle.calculus.specs.Orders.{Order}
 use Rattle.calculus.specs.Refusal.{refused}

@@ -2,7 +2,6 @@
 use mathlib.Core.Path.{sym, ◌∙◌}
 use native.Mathlib.Omega.{arith}
 use Rattle.std.proofs.lemmas.Result.{err_from_is_err_and}
-use Rattle.std.specs.Prelude.{Ok, Err, IfOk, IfErr}
 use Rattle.nodes.specs.Reading.{Taken}
 use Rattle.reduction.proofs.Applications.{first-refused, second-refused}
 use Rattle.reduction.proofs.ReadInputs.{second_asks, Both, both_read, at_no-abstraction, linked_asks, at_linked}

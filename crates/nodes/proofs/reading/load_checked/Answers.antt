@@ -1,5 +1,4 @@
 -- `nodes::reading::load_checked` meets its contract: an input that is not read at once is checked, then loaded.
-use mathlib.Core.Path.{◌∙◌}
 use native.Mathlib.Omega.{arith}
 use Rattle.std.proofs.lemmas.Result.{err_from_is_err_and}
 use Rattle.calculus.proofs.Coding.{AllBytes}
