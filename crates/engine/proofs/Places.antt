@@ -3,7 +3,6 @@ use Prim.Native.Nat.{ℕ, ◌+◌, ◌/◌, ◌%◌}
 use mathlib.Core.Path.{◌≡◌, refl, sym, ◌∙◌}
 use mathlib.Core.Bool.{Bool, true, false, false≢true}
 use mathlib.Core.List.{List}
-use native.Mathlib.Omega.{arith}
 use Rattle.calculus.specs.Term.{Term, app, nodes}
 use Rattle.calculus.specs.Orders.{Order, step}
 use Rattle.calculus.specs.Traits.{spine, eager, late, NotLam}

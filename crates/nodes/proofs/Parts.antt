@@ -1,6 +1,6 @@
 -- What a node that was read says of the term that it is: which it is, and where its parts are.
 use Prim.Native.Nat.{ℕ, ◌/◌, ◌%◌, ◌<◌}
-use mathlib.Core.Path.{◌≡◌, refl, sym, ap, ◌∙◌}
+use mathlib.Core.Path.{◌≡◌, refl, sym}
 use mathlib.Core.List.{List}
 use native.Mathlib.Omega.{arith}
 use Rattle.calculus.specs.Term.{Term, var, lam, app}

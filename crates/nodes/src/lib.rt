@@ -29,6 +29,7 @@ pub const FREE: u64 = 1073741824;
 const NORMAL: u64 = 1099511627776;
 
 // The bound on free indices that says nothing.
+// stays a number: the room is lent as numbers, and ten bits have no place for one more case
 pub const UNKNOWN: u64 = 1023;
 
 // A second number holds two parts: the right one stands for this much.
@@ -108,6 +109,7 @@ pub fn node_at(room: &[u64], node: usize) -> Node
 }
 
 // Two parts in one number.
+// stays a number: the room is lent as numbers
 pub fn pair(left: usize, right: usize) -> u64
     requires { (left < 4294967296) × (right < 4294967296) }
     ensures { result ≡ left + 4294967296 * right }
@@ -151,6 +153,7 @@ fn lower(free: u64) -> u64
 fn settle(a: u64, b: u64) -> u64
     ensures { result ≡ settled a b }
 {
+    // the kind stays a number: a first number alone is at hand, and `node_at` would ask for the second too
     if kind_of(a) == 2 {
         return 0;
     }

@@ -6,6 +6,7 @@ use calculus::GREATEST_NUMBER;
 use nodes::{Node, UNKNOWN};
 
 // How often the argument is put in, the greatest depth at which it is (0 for none), and the height afterwards.
+// `deepest` stays a number: as an Option, a fourth word, it made the walk a tenth slower
 #[derive(Clone, Copy)]
 struct Measured {
     copies: u64,

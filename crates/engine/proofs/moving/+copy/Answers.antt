@@ -2,8 +2,8 @@
 use Prim.Native.Nat.{ℕ, ◌+◌, ◌*◌, ◌≤◌, ◌<◌}
 use native.Mathlib.Omega.{arith}
 use lib.ListN.{length}
-use Rattle.engine.proofs.Renewing.{variable-fits, at_variable, body_asks, abstraction-fits, at_abstraction}
-use Rattle.engine.proofs.Renewing.{left_asks, right_asks, application-fits, at_application}
+use Rattle.engine.proofs.Renewing.{at_variable, body_asks, abstraction-fits, at_abstraction}
+use Rattle.engine.proofs.Renewing.{application-fits, at_application}
 use Rattle.engine.proofs.moving.+copy.Goals as goal
 use Rattle.engine.proofs.moving.+copy.Goals.{After-copy-top, After-copy-top-in-Application}
 
