@@ -37,11 +37,10 @@ use Rattle.eta.specs.Scope.{Among, first, later, Scoped}
 use Rattle.eta.specs.Shrinking.{Came, shrunk}
 use Rattle.eta.specs.Levelled.{Levelled}
 use Rattle.eta.specs.Naming.{Nameable, Reads}
-use Rattle.eta.specs.Shrinks.{Shrinkable, Shrinks}
+use Rattle.eta.specs.Shrinks.{State, Shrinkable, Shrinks}
 use Rattle.eta.specs.Writing.{Placed, Writable, Writes}
 use Rattle.nodes.specs.Working.{Works}
 use Rattle.eta.specs.declared.naming.Read.{Read}
-use Rattle.eta.specs.declared.shrinking.Shrunk.{Shrunk}
 use Rattle.eta.proofs.Levels.{scoped-named, plain-named, rise-named, weight-named}
 use Rattle.eta.proofs.Ways.{rise-shrunk}
 use Rattle.eta.proofs.Sequence.{scoped-shrunk, eta-shrunk, eta-whole}
@@ -121,7 +120,7 @@ module _ {cap count : ℕ} {s out store : List ℕ} (lent : Lent cap out store) 
           counted = omega (arith, few, lent.in_bounds);
         }
 
-    module _ (limit : ℕ) {done : Shrunk} {end : List ℕ}
+    module _ (limit : ℕ) {done : State} {end : List ℕ}
         (shrinks : Shrinks mid (read.used - 1) read.used 0 limit done end) where
       abbrev came : Came
       came = shrunk (may_follow limit) 0 (named 0 input.term)

@@ -1,26 +1,25 @@
 -- A node whose parts are done: it stays, it is made anew of what they came to, or an abstraction goes.
 use Rattle.std.specs.Prelude.{Option, Some, None}
-use Prim.Native.Nat.{ℕ, ◌+◌, ◌*◌, ◌/◌, ◌%◌, ◌≤◌, ◌<◌}
+use Prim.Native.Nat.{ℕ, ◌+◌, ◌*◌, ◌≤◌, ◌<◌}
 use mathlib.Core.Path.{◌≡◌, refl, sym, ◌∙◌, ap, ap₂}
-use mathlib.Core.Bool.{Bool, true, false, ◌&&◌, ◌||◌}
+use mathlib.Core.Bool.{Bool, true, false, ◌||◌}
 use mathlib.Core.List.{List}
 use native.Mathlib.Omega.{arith}
 use Rattle.calculus.specs.Eta.{may_follow}
-use Rattle.nodes.specs.Store.{Same, word, link}
+use Rattle.nodes.specs.Store.{Same, link}
 use Rattle.nodes.proofs.Keeping.{same_refl}
 use Rattle.eta.specs.Named.{Named, binds, joins, lone}
-use Rattle.eta.specs.Shrinking.{Came, ends_in, again}
+use Rattle.eta.specs.Shrinking.{Came, again}
 use Rattle.eta.specs.Store.{Names, binder_word, node_at}
 use Rattle.eta.specs.declared.named.Binder.{Binder}
 use Rattle.eta.specs.declared.named.Node.TheVariants as read
-use Rattle.eta.specs.Shrinks.{StandsFor, Checkable, Contracts, Joinable, Joins, Bindable, Rebinds, Binds}
-use Rattle.eta.specs.declared.shrinking.Shrunk.{Shrunk}
+use Rattle.eta.specs.Shrinks.{State, StandsFor, Checkable, Contracts, Joinable, Joins, Bindable, Rebinds, Binds}
 use Rattle.nodes.proofs.Stored.{Stored}
 use Rattle.eta.proofs.Remade.{binds-stored, joins-stored}
 use Rattle.eta.proofs.Parts.{named-abstraction, named-application}
 
 -- AN APPLICATION
-module _ {room : List ℕ} {node : ℕ} {left right : Shrunk} (asked : Joinable room node left right) {some : Bool}
+module _ {room : List ℕ} {node : ℕ} {left right : State} (asked : Joinable room node left.node right) {some : Bool}
     (told : some ≡ (left.left || right.left)) where
   -- whichever node joins what the parts came to
   joined : {n next : ℕ} {after : List ℕ}
@@ -60,7 +59,7 @@ module _ {room : List ℕ} {node : ℕ} {left right : Shrunk} (asked : Joinable 
       (omega arith) (omega arith) new.same
 
 -- AN ABSTRACTION
-module _ {room : List ℕ} {node : ℕ} {binder : Binder} {body : Shrunk} (asked : Bindable room node binder body) where
+module _ {room : List ℕ} {node : ℕ} {binder : Binder} {body : State} (asked : Bindable room node binder body) where
   -- whichever node binds what the body came to
   rebound : {left : Bool} {n next : ℕ} {after : List ℕ}
       → ((b : Named) → binder.linear ≡ lone binder.level b → Names room b body.node
@@ -106,7 +105,7 @@ module _ {room : List ℕ} {node : ℕ} {binder : Binder} {body : Shrunk} (asked
   }
 
   module _ {found : Option ℕ} (tells : Contracts room binder body.node found) where
-    stayed : {limit : ℕ} {left : Bool} {r : Shrunk} {after : List ℕ} → Rebinds room node binder body left r after
+    stayed : {limit : ℕ} {left : Bool} {r : State} {after : List ℕ} → Rebinds room node binder body left r after
         → ((b : Named) (c : Came) → binder.linear ≡ lone binder.level b → StandsFor room body c
         → again (may_follow limit) binder.level (lone binder.level b) c ≡ (c.0, binds binder.level c.1, left))
         → Binds room node binder body limit r after
@@ -117,13 +116,13 @@ module _ {room : List ℕ} {node : ℕ} {binder : Binder} {body : Shrunk} (asked
       same = stays.same;
     }
 
-    pub bind_stays : {limit : ℕ} {r : Shrunk} {after : List ℕ} → found ≡ None
+    pub bind_stays : {limit : ℕ} {r : State} {after : List ℕ} → found ≡ None
         → Rebinds room node binder body body.left r after → Binds room node binder body limit r after
     bind_stays none stays =
         stayed stays (λ b c linear done.
         rw (sym linear, tells.stays none c.1 done.names, done.left))
 
-    pub bind-ends : {limit applied : ℕ} {r : Shrunk} {after : List ℕ} → found ≡ Some applied
+    pub bind-ends : {limit applied : ℕ} {r : State} {after : List ℕ} → found ≡ Some applied
         → may_follow limit body.steps ≡ false → Rebinds room node binder body true r after
         → Binds room node binder body limit r after
     bind-ends {limit} {applied} some last stays =

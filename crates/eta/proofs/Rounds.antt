@@ -1,6 +1,6 @@
 -- Shrinking a named term: at each kind of node, what the calls ask and what they come to.
 use Rattle.std.specs.Prelude.{Option, Some, None}
-use Prim.Native.Nat.{ℕ, suc, ◌+◌, ◌/◌, ◌%◌, ◌≤◌, ◌<◌}
+use Prim.Native.Nat.{ℕ, suc, ◌+◌, ◌≤◌, ◌<◌}
 use mathlib.Core.Path.{◌≡◌, refl, sym, ◌∙◌, ap}
 use mathlib.Core.Logic.{◌⊎◌, inl, inr}
 use mathlib.Core.Bool.{Bool, true, false, ◌&&◌, and-false, false≢true}
@@ -10,21 +10,19 @@ use lib.ListN.{length}
 use Rattle.calculus.specs.Eta.{may_follow}
 use Rattle.nodes.specs.Store.{Same}
 use Rattle.nodes.proofs.Keeping.{same_refl, same_then}
-use Rattle.eta.specs.Named.{Named, bound, loose, binds, joins, weight, lone}
+use Rattle.eta.specs.Named.{Named, binds, joins, weight, lone}
 use Rattle.eta.specs.Shrinking.{Came, shrunk, ends_in, applied}
-use Rattle.eta.specs.Store.{Names, node_at, Packable}
+use Rattle.eta.specs.Store.{Names, node_at}
 use Rattle.eta.specs.declared.named.Binder.{Binder}
-use Rattle.eta.specs.declared.named.Node.{Node}
 use Rattle.eta.specs.declared.named.Node.TheVariants as read
-use Rattle.eta.specs.Shrinks.{Shrinkable, Shrinks, StandsFor, Checkable, Contracts, Joinable, Joins}
+use Rattle.eta.specs.Shrinks.{State, Shrinkable, Shrinks, StandsFor, Checkable, Contracts, Joinable, Joins}
 use Rattle.eta.specs.Shrinks.{Bindable, Binds}
-use Rattle.eta.specs.declared.shrinking.Shrunk.{Shrunk}
 use Rattle.eta.proofs.Kept.{names-kept}
 use Rattle.eta.proofs.Parts.{Abstraction, Application, named-bound, named-free, named-abstraction, named-application}
 use Rattle.eta.proofs.Readiness.{lighter-place}
 use Rattle.eta.proofs.Ways.{lone-shrunk, steps-shrunk, shrunk-binds, shrunk-place}
 
-stands-kept : {xs ys : List ℕ} {u : ℕ} {r : Shrunk} (c : Came) → Same xs ys u → r.used ≤ u → StandsFor xs r c
+stands-kept : {xs ys : List ℕ} {u : ℕ} {r : State} (c : Came) → Same xs ys u → r.used ≤ u → StandsFor xs r c
     → StandsFor ys r c
 stands-kept {r = r} c same le h = record {
   steps = h.steps;
@@ -56,7 +54,7 @@ still xs n more steps t (inr (j, is)) h = rw (named-free xs n t is h)
 
 module _ {room : List ℕ} {node used steps limit : ℕ} where
   -- what was made of the term that a call is given: no more nodes and steps than it weighs
-  few-made : {r : Shrunk} {after : List ℕ} (t : Named) → Names room t node → Shrinks room node used steps limit r after
+  few-made : {r : State} {after : List ℕ} (t : Named) → Names room t node → Shrinks room node used steps limit r after
       → (r.used ≤ used + weight t) × (r.steps ≤ steps + weight t) × (length after ≡ length room)
   few-made t h done = (
     done.most t h,
@@ -108,7 +106,7 @@ module _ {room : List ℕ} {node used steps : ℕ} (asked : Shrinkable room node
         part_asks parts.left parts.left_below parts.left_names refl (omega arith) (omega arith)
         (omega arith)
 
-    module _ {limit : ℕ} {left : Shrunk} {mid : List ℕ} (first : Shrinks room m used steps limit left mid) where
+    module _ {limit : ℕ} {left : State} {mid : List ℕ} (first : Shrinks room m used steps limit left mid) where
       right_names : {t : Named} (v : Application room node m n t) → Names mid v.right n
       right_names v =
           names-kept v.right n first.same (omega (arith, asked.below, v.right_below)) v.right_names
@@ -121,7 +119,7 @@ module _ {room : List ℕ} {node used steps : ℕ} (asked : Shrinkable room node
           part_asks parts.right parts.right_below (right_names parts) long first.grows
           (omega arith) (omega arith)
 
-      module _ {right : Shrunk} {end : List ℕ} (second : Shrinks mid n left.used left.steps limit right end) where
+      module _ {right : State} {end : List ℕ} (second : Shrinks mid n left.used left.steps limit right end) where
         both_same : Same room end used
         both_same = same_then first.grows first.same second.same
 
@@ -135,7 +133,7 @@ module _ {room : List ℕ} {node used steps : ℕ} (asked : Shrinkable room node
             let l_made = first.most v.left v.left_names in
             omega (arith, ap weight v.same, second.most v.right (right_names v))
 
-        pub join_asks : Joinable end node left right
+        pub join_asks : Joinable end node left.node right
         join_asks = record {
           left_term = parts.left;
           right_term = parts.right;
@@ -147,7 +145,7 @@ module _ {room : List ℕ} {node used steps : ℕ} (asked : Shrinkable room node
           few = omega (arith, asked.few, both_made parts);
         }
 
-        pub at_application : {r : Shrunk} {after : List ℕ} → Joins end node left right r after
+        pub at_application : {r : State} {after : List ℕ} → Joins end node left right r after
             → Shrinks room node used steps limit r after
         unfolding shrunk
         at_application done = record {
@@ -183,7 +181,7 @@ module _ {room : List ℕ} {node used steps : ℕ} (asked : Shrinkable room node
         let heavier = ap weight body.same in
         part_asks body.body body.below body.names refl (omega arith) (omega arith) (omega arith)
 
-    module _ {limit : ℕ} {done : Shrunk} {mid : List ℕ} (first : Shrinks room x used steps limit done mid) where
+    module _ {limit : ℕ} {done : State} {mid : List ℕ} (first : Shrinks room x used steps limit done mid) where
       whole : {t : Named} (v : Abstraction room node binder x t) → Names room t node
           → Names mid (binds binder.level v.body) node
       whole {t} v h = rw (sym v.same) (names-kept t node first.same asked.below h)
@@ -217,7 +215,7 @@ module _ {room : List ℕ} {node used steps : ℕ} (asked : Shrinkable room node
             part_asks (applied body.body) (omega (arith, body.below)) names refl (omega arith) (omega arith)
             (omega arith)
 
-        pub at_place : {limit : ℕ} {r : Shrunk} {after : List ℕ} → may_follow limit steps ≡ true
+        pub at_place : {limit : ℕ} {r : State} {after : List ℕ} → may_follow limit steps ≡ true
             → Shrinks room m used (steps + 1) limit r after → Shrinks room node used steps limit r after
         unfolding weight
         at_place {limit} more done = record {
@@ -239,7 +237,7 @@ module _ {room : List ℕ} {node used steps : ℕ} (asked : Shrinkable room node
         }
 
       -- ONE THAT WAITED for its body: it is no place, or no step may follow
-      pub at_abstraction : {limit : ℕ} {done r : Shrunk} {mid after : List ℕ}
+      pub at_abstraction : {limit : ℕ} {done r : State} {mid after : List ℕ}
           → Waits found (may_follow limit steps) → Shrinks room x used steps limit done mid
           → Binds mid node binder done limit r after → Shrinks room node used steps limit r after
       unfolding weight

@@ -8,6 +8,17 @@ use Rattle.eta.specs.Shrinking.{Came, shrunk, again, beside, ends_in, applied}
 use Rattle.eta.specs.Store.{Names}
 use Rattle.eta.specs.declared.named.Binder.{Binder}
 use Rattle.eta.specs.declared.shrinking.Shrunk.{Shrunk}
+use Rattle.eta.specs.declared.shrinking.Work.{Work}
+
+-- a node, the number of the next one, the steps made, and whether the limit left a place
+pub record State : Type 0 where
+  pub node : ℕ
+  pub used : ℕ
+  pub steps : ℕ
+  pub left : Bool
+
+abbrev pub state : Shrunk → Work → State
+state r w = record { node = r.node; used = w.used; steps = w.steps; left = r.left }
 
 -- a node that is some named term, with room for as many nodes again
 pub record Shrinkable (room : List ℕ) (node used steps : ℕ) : Type 0 where
@@ -19,7 +30,7 @@ pub record Shrinkable (room : List ℕ) (node used steps : ℕ) : Type 0 where
   pub counted : steps + weight term ≤ 4 * most_nodes
 
 -- a node, with the steps and whether a place is left, is what a named term came to
-pub record StandsFor (room : List ℕ) (r : Shrunk) (c : Came) : Type 0 where
+pub record StandsFor (room : List ℕ) (r : State) (c : Came) : Type 0 where
   pub steps : r.steps ≡ c.0
   pub names : Names room c.1 r.node
   pub left : r.left ≡ c.2
@@ -38,24 +49,24 @@ pub record Contracts (room : List ℕ) (binder : Binder) (body : ℕ) (r : Optio
   pub stays : r ≡ None → (b : Named) → Names room b body → (binder.linear && ends_in binder.level b) ≡ false
 
 -- AN APPLICATION whose parts are done
-pub record Joinable (room : List ℕ) (node : ℕ) (left right : Shrunk) : Type 0 where
+pub record Joinable (room : List ℕ) (node : ℕ) (left : ℕ) (right : State) : Type 0 where
   pub left_term : Named
   pub right_term : Named
   pub names : Names room (joins left_term right_term) node
   pub below : node < right.used
-  pub left_below : left.node < right.used
+  pub left_below : left < right.used
   pub right_below : right.node < right.used
   pub fits : 2 * right.used + 2 ≤ length room
   pub few : right.used ≤ 4 * most_nodes
 
-pub record Joins (before : List ℕ) (node : ℕ) (left right r : Shrunk) (after : List ℕ) : Type 0 where
+pub record Joins (before : List ℕ) (node : ℕ) (left right r : State) (after : List ℕ) : Type 0 where
   pub comes : (c d : Came) → StandsFor before left c → StandsFor before right d → StandsFor after r (beside c d)
   pub most : r.used ≤ right.used + 1
   pub grows : right.used ≤ r.used
   pub same : Same before after right.used
 
 -- AN ABSTRACTION whose body is done
-pub record Bindable (room : List ℕ) (node : ℕ) (binder : Binder) (body : Shrunk) : Type 0 where
+pub record Bindable (room : List ℕ) (node : ℕ) (binder : Binder) (body : State) : Type 0 where
   pub body_term : Named
   pub names : Names room (binds binder.level body_term) node
   pub packable : binder.level < 2305843009213693952
@@ -67,7 +78,7 @@ pub record Bindable (room : List ℕ) (node : ℕ) (binder : Binder) (body : Shr
   pub counted : body.steps ≤ 4 * most_nodes
 
 -- it stays
-pub record Rebinds (before : List ℕ) (node : ℕ) (binder : Binder) (body : Shrunk) (left : Bool) (r : Shrunk)
+pub record Rebinds (before : List ℕ) (node : ℕ) (binder : Binder) (body : State) (left : Bool) (r : State)
     (after : List ℕ) : Type 0 where
   pub comes : (b : Named) (c : Came) → Names before (binds binder.level b) node → binder.linear ≡ lone binder.level b
       → StandsFor before body c → lone binder.level c.1 ≡ lone binder.level b
@@ -77,7 +88,7 @@ pub record Rebinds (before : List ℕ) (node : ℕ) (binder : Binder) (body : Sh
   pub same : Same before after body.used
 
 -- it stays or goes
-pub record Binds (before : List ℕ) (node : ℕ) (binder : Binder) (body : Shrunk) (limit : ℕ) (r : Shrunk)
+pub record Binds (before : List ℕ) (node : ℕ) (binder : Binder) (body : State) (limit : ℕ) (r : State)
     (after : List ℕ) : Type 0 where
   pub comes : (b : Named) (c : Came) → Names before (binds binder.level b) node → binder.linear ≡ lone binder.level b
       → StandsFor before body c → lone binder.level c.1 ≡ lone binder.level b
@@ -87,7 +98,7 @@ pub record Binds (before : List ℕ) (node : ℕ) (binder : Binder) (body : Shru
   pub same : Same before after body.used
 
 -- whatever named term the node is, it comes to what it shrinks to, and the nodes before are as they were
-pub record Shrinks (before : List ℕ) (node used steps limit : ℕ) (r : Shrunk) (after : List ℕ) : Type 0 where
+pub record Shrinks (before : List ℕ) (node used steps limit : ℕ) (r : State) (after : List ℕ) : Type 0 where
   pub comes : (t : Named) → Names before t node → StandsFor after r (shrunk (may_follow limit) steps t)
   pub most : (t : Named) → Names before t node → r.used ≤ used + weight t
   pub grows : used ≤ r.used

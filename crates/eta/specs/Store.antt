@@ -2,7 +2,6 @@
 use Rattle.std.specs.Prelude.{ℕ, ◌+◌, ◌*◌, ◌/◌, ◌%◌, ◌<◌, ◌≡◌, Bool, cond, eqb, List, if◌then◌else◌, ◌==◌, ⊤}
 use Rattle.nodes.specs.Store.{word, link}
 use Rattle.eta.specs.Named.{Named, bound, loose, binds, joins, uses, has_zero, lone}
-use Rattle.eta.specs.declared.named.Binder.{Binder}
 use Rattle.eta.specs.declared.named.Node.{Node}
 use Rattle.eta.specs.declared.named.Node.TheVariants.{Bound, Free, Abstraction, Application}
 

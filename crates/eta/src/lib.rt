@@ -19,7 +19,7 @@ use calculus::ROOM_PER_NODE;
 use naming::load;
 use nodes::lending::grant;
 use nodes::runs::{End, Run, Stopped};
-use shrinking::shrink;
+use shrinking::{Work, shrink};
 use writing::write;
 
 // One number for each binder that can be open at once, which are fewer than a term is high: no term is higher than
@@ -43,13 +43,14 @@ fn contract_places(
 {
     let read = load(s, 0, store, 0, levels, 0);
     let used = read.used;
-    let done = shrink(store, used - 1, used, 0, limit);
+    let mut work = Work { used, steps: 0 };
+    let done = shrink(store, &mut work, used - 1, limit);
     let end = if done.left {
         End::Unfinished
     } else {
         End::Finished
     };
-    let steps = done.steps;
+    let steps = work.steps;
     let length = write(store, done.node, out, 0, levels, 0);
     Run { end, steps, length }
 }

@@ -2,16 +2,21 @@
 ghost use Rattle.std.specs.Prelude.{◌≡◌};
 ghost use Rattle.calculus.specs.Eta.{may_follow};
 ghost use Rattle.eta.specs.Shrinks.{Shrinkable, Shrinks, Checkable, Contracts, Joinable, Joins};
-ghost use Rattle.eta.specs.Shrinks.{Bindable, Rebinds, Binds};
+ghost use Rattle.eta.specs.Shrinks.{Bindable, Rebinds, Binds, state};
 
 use crate::named::{Binder, Node, named_at, put_named};
 
-// The node that a term came to, the number of the next node, the steps made, and whether the limit left a place.
-#[derive(Clone, Copy)]
-pub(crate) struct Shrunk {
-    pub(crate) node: usize,
+// What the sequence is lent as it goes: the number of the next node, and the steps made.
+#[derive(Clone, Copy, Debug, PartialEq, Eq)]
+pub(crate) struct Work {
     pub(crate) used: usize,
     pub(crate) steps: u64,
+}
+
+// The node that a term came to, and whether the limit left a place.
+#[derive(Clone, Copy, Debug, PartialEq, Eq)]
+pub(crate) struct Shrunk {
+    pub(crate) node: usize,
     pub(crate) left: bool,
 }
 
@@ -41,84 +46,87 @@ fn contracted(room: &[u64], binder: Binder, body: usize) -> Option<usize>
 }
 
 // An application whose parts are done: the same node if both stayed.
-fn join(room: &mut [u64], node: usize, left: Shrunk, right: Shrunk) -> Shrunk
-    requires { Joinable room.old node left right }
-    ensures { Joins room.old node left right result room.new }
+fn join(room: &mut [u64], work: &mut Work, node: usize, first: Shrunk, second: Shrunk) -> Shrunk
+    requires { Joinable room.old node first.node (state second work.old) }
+    ensures { (w : Work) → Joins room.old node (state first w) (state second work.old)
+        (state result work.new) room.new }
 {
-    let joined = Node::Application(left.node, right.node);
-    let some = left.left || right.left;
+    let joined = Node::Application(first.node, second.node);
+    let left = first.left || second.left;
     if named_at(room, node) == joined {
-        return Shrunk {
-            node,
-            left: some,
-            ..right
-        };
+        return Shrunk { node, left };
     }
-    Shrunk {
-        node: right.used,
-        used: put_named(room, right.used, joined),
-        steps: right.steps,
-        left: some,
-    }
+    let next = work.used;
+    work.used = put_named(room, next, joined);
+    Shrunk { node: next, left }
 }
 
 // An abstraction that stays, whose body is done: the same node if the body stayed.
-fn rebind(room: &mut [u64], node: usize, binder: Binder, body: Shrunk, left: bool) -> Shrunk
-    requires { Bindable room.old node binder body }
-    ensures { Rebinds room.old node binder body left result room.new }
+fn rebind(
+    room: &mut [u64],
+    work: &mut Work,
+    node: usize,
+    binder: Binder,
+    body: Shrunk,
+    left: bool,
+) -> Shrunk
+    requires { Bindable room.old node binder (state body work.old) }
+    ensures { Rebinds room.old node binder (state body work.old) left (state result work.new) room.new }
 {
     let bound = Node::Abstraction(binder, body.node);
     if named_at(room, node) == bound {
-        return Shrunk { node, left, ..body };
+        return Shrunk { node, left };
     }
-    Shrunk {
-        node: body.used,
-        used: put_named(room, body.used, bound),
-        steps: body.steps,
-        left,
-    }
+    let next = work.used;
+    work.used = put_named(room, next, bound);
+    Shrunk { node: next, left }
 }
 
 // An abstraction whose body is done: contracted if it now may be.
-fn bind(room: &mut [u64], node: usize, binder: Binder, body: Shrunk, limit: u64) -> Shrunk
-    requires { Bindable room.old node binder body }
-    ensures { Binds room.old node binder body limit result room.new }
+fn bind(
+    room: &mut [u64],
+    work: &mut Work,
+    node: usize,
+    binder: Binder,
+    body: Shrunk,
+    limit: u64,
+) -> Shrunk
+    requires { Bindable room.old node binder (state body work.old) }
+    ensures { Binds room.old node binder (state body work.old) limit (state result work.new) room.new }
 {
     match contracted(room, binder, body.node) {
-        None => rebind(room, node, binder, body, body.left),
-        Some(applied) if may_follow(limit, body.steps) => Shrunk {
-            node: applied,
-            steps: body.steps + 1,
-            ..body
-        },
-        Some(_) => rebind(room, node, binder, body, true),
+        None => rebind(room, work, node, binder, body, body.left),
+        Some(applied) if may_follow(limit, work.steps) => {
+            work.steps += 1;
+            Shrunk {
+                node: applied,
+                left: body.left,
+            }
+        }
+        Some(_) => rebind(room, work, node, binder, body, true),
     }
 }
 
 // At a node contract while possible; then do the parts, left first; then, at an abstraction, contract again.
-pub(crate) fn shrink(room: &mut [u64], node: usize, used: usize, steps: u64, limit: u64) -> Shrunk
-    requires { Shrinkable room.old node used steps }
-    ensures { Shrinks room.old node used steps limit result room.new }
+pub(crate) fn shrink(room: &mut [u64], work: &mut Work, node: usize, limit: u64) -> Shrunk
+    requires { Shrinkable room.old node work.old.used work.old.steps }
+    ensures { Shrinks room.old node work.old.used work.old.steps limit (state result work.new) room.new }
 {
     match named_at(room, node) {
-        Node::Bound(_) | Node::Free(_) => Shrunk {
-            node,
-            used,
-            steps,
-            left: false,
-        },
+        Node::Bound(_) | Node::Free(_) => Shrunk { node, left: false },
         Node::Application(left, right) => {
-            let first = shrink(room, left, used, steps, limit);
-            let second = shrink(room, right, first.used, first.steps, limit);
-            join(room, node, first, second)
+            let first = shrink(room, work, left, limit);
+            let second = shrink(room, work, right, limit);
+            join(room, work, node, first, second)
         }
         Node::Abstraction(binder, body) => match contracted(room, binder, body) {
-            Some(applied) if may_follow(limit, steps) => {
-                shrink(room, applied, used, steps + 1, limit)
+            Some(applied) if may_follow(limit, work.steps) => {
+                work.steps += 1;
+                shrink(room, work, applied, limit)
             }
             _ => {
-                let done = shrink(room, body, used, steps, limit);
-                bind(room, node, binder, done, limit)
+                let done = shrink(room, work, body, limit);
+                bind(room, work, node, binder, done, limit)
             }
         },
     }

@@ -1,5 +1,5 @@
 -- `eta::naming::load` meets its contract: at each head it is a law of `Loaded`. The offset grows at each call.
-use Rattle.std.specs.Prelude.{ℕ, ◌<◌, ◌&&◌, ◌||◌, not, eqb, get_or}
+use Rattle.std.specs.Prelude.{◌&&◌, ◌||◌, not, eqb, get_or}
 use mathlib.Core.Path.{◌≡◌, sym, ◌∙◌}
 use native.Mathlib.Omega.{arith}
 use borrow.Author.Rules.{rules}

@@ -1,5 +1,4 @@
 -- `eta::shrinking::shrink` meets its contract: each kind of node is a law of `Rounds`. Parts have smaller numbers.
-use Rattle.std.specs.Prelude.{ℕ}
 use mathlib.Core.Path.{sym, ◌∙◌}
 use native.Mathlib.Omega.{arith}
 use Rattle.calculus.specs.Eta.{may_follow}
@@ -29,7 +28,7 @@ join-requires t c =
 pub returns-in-Application : goal.returns-in-Application
 returns-in-Application t c =
     at_application c.requires (sym c.in-Application.ensures.read) c.shrink-first.ensures
-    c.shrink-second.ensures c.join.ensures
+    c.shrink-second.ensures (c.join.ensures c.shrink-first.new.work)
 
 pub contracted-requires : goal.contracted-requires
 contracted-requires t c = contracted_asks c.requires (sym c.in-Abstraction.ensures.read)
@@ -56,7 +55,7 @@ bind-requires t c =
 
 pub returns-in_default : goal.returns-in_default
 returns-in_default t c =
-    let waits : Waits c.contracted.result (may_follow c.args.limit c.args.steps) =
+    let waits : Waits c.contracted.result (may_follow c.args.limit c.args.work.now.steps) =
     elim c.in_default.branch [
       | in_default-via-in-Some+else-may_follow w ↦ no_more (sym w.may_follow.ensures ∙ w.if-may_follow.false)
       | in_default-via-in_default w ↦ waits-none w.in_default.not-Some

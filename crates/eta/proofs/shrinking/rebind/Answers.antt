@@ -11,4 +11,4 @@ returns-then-eq c =
     rebind_stays c.requires (sym c.named_at.ensures.read ∙ same)
 
 pub returns : goal.returns
-returns c = let (next, new) = c.put_named.ensures in rebind-made c.requires next new
+returns c = let (next, new) = c.put_named-work.ensures in rebind-made c.requires next new

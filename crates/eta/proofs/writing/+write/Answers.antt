@@ -2,7 +2,7 @@
 use mathlib.Core.Path.{sym}
 use native.Mathlib.Omega.{arith}
 use borrow.Author.Rules.{rules}
-use Rattle.eta.proofs.Written.{written-length, variable-fits, at_variable}
+use Rattle.eta.proofs.Written.{variable-fits, at_variable}
 use Rattle.eta.proofs.Written.{bound_asks, is_bound, is_zero, is_free, free_asks}
 use Rattle.eta.proofs.Written.{binder_asks, body_below, body_asks, at_binder}
 use Rattle.eta.proofs.Written.{application_asks, left_asks, right_asks, at_application}
