@@ -39,14 +39,13 @@ abbrev start : Cursor
 start = record { at = 0; chars = 0 }
 
 -- THE WHOLE TEXT is one sequence, with nothing open
-pub ready-first : {n : Notation} {s : List ℕ} {most : ℕ} {out store : List ℕ} (stack : List (Option Binder))
-    → length stack ≡ most_open
-    → Lent most out store → Valid n s 0 → Ready n s stack 0 store most start 0
+pub ready-first : {n : Notation} {s : List ℕ} {most : ℕ} {out store : List ℕ} → Lent most out store → Valid n s 0
+    → Ready n s [] store most start 0
 unfolding remains
-ready-first stack long lent valid = record {
+ready-first lent valid = record {
   placed = record { inside = omega arith; fewer = omega arith; counted = omega arith };
   valid = valid;
-  opened = record { as_long = long; few = omega arith; inside = λ k lt. absurd (omega arith) };
+  opened = record { few = omega arith; inside = λ k lt. absurd (omega arith) };
   roomy = record { in_bounds = lent.in_bounds; room = omega (arith, lent.room); few = omega arith };
   few = omega arith;
 }
@@ -62,9 +61,9 @@ refused-stores : {answer : Answer Term} (e : Refusal) (out : List ℕ) → answe
     → Stores answer out (Err e) out
 refused-stores e out is = rw is
 
-module _ {n : Notation} {s : List ℕ} {stack : List (Option Binder)} {most : ℕ} {store : List ℕ}
+module _ {n : Notation} {s : List ℕ} {most : ℕ} {store : List ℕ}
     {r : Result Went Refusal} {stack' : List (Option Binder)} {store' : List ℕ}
-    (reads : Reads n s stack 0 store most start 0 r stack' store') where
+    (reads : Reads n s [] store most start 0 r stack' store') where
   comes_to : Comes n s [] most start 0 store' r
   unfolding opens
   comes_to = reads.comes

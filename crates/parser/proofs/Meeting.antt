@@ -3,10 +3,11 @@ use Prim.Native.Nat.{ℕ, suc, ◌+◌, ◌-◌, ◌≤◌, ◌<◌}
 use mathlib.Core.Path.{◌≡◌, refl, sym, ap, ◌∙◌}
 use mathlib.Core.Bool.{true, false}
 use mathlib.Core.List.{List, [], ◌∷◌}
-use Rattle.std.specs.Prelude.{Option, Some, None, Result, Ok, Err, take, reverse, ◌++◌}
-use Rattle.std.proofs.lemmas.List.{length-take-le, length-reverse, get_or-reverse, get_or-take, get_or_default, length-append}
+use Rattle.std.specs.Prelude.{Option, Some, None, Result, Ok, Err, ◌++◌}
+use Rattle.std.proofs.lemmas.List.{get_or_default, length-append}
 use native.Mathlib.Omega.{arith}
-use lib.ListN.{length, get_or}
+use lib.ListN.{length, get_or, drop, drop_of_length-le}
+use lib.Seq.{drop-cons}
 use Rattle.calculus.specs.Bounds.{most_text}
 use Rattle.calculus.specs.Refusal.{Answer, given, refused, ◌then◌}
 use Rattle.calculus.specs.Reading as notation
@@ -24,80 +25,62 @@ use Rattle.parser.specs.declared.tokens.Token.{Token}
 use Rattle.words.proofs.Remaining.{remains_end}
 use Rattle.words.specs.Ahead.{words_at}
 use Rattle.words.proofs.Ahead.{ahead-word, ahead_end, ahead-invalid}
-use Rattle.parser.specs.Opens.{name_at, binder_of, opens, found}
+use Rattle.parser.specs.Opens.{name_at, binder_of, opens, Opened, found}
 use Rattle.parser.specs.Tokens.{words_on, list_of, word_of, Valid, Onward}
 use Rattle.parser.specs.Tokens.{MetIndex, MetOpening, MetClosing, MetEnd, MetRefused, Meets}
 use Rattle.parser.proofs.Going.{goes_number, goes-name, goes_undefined}
 use Rattle.parser.proofs.Openings.{past-group, is-binder, past-binder}
 
--- LOOKING UP A NAME, with the last of what is open already passed
-pub record Looks (s : List ℕ) (stack : List (Option Binder)) (x : List ℕ) (count left index : ℕ) : Type 0 where
-  pub few : left ≤ count
-  pub low : index + left ≤ count + 1
-  pub looks : resolved x 1 (opens s stack count) ≡ resolved x index (opens s stack left)
+-- LOOKING UP A NAME, with so many of the innermost already passed
+pub record Looks (s : List ℕ) (stack : List (Option Binder)) (x : List ℕ) (passed index : ℕ) : Type 0 where
+  pub low : index ≤ passed + 1
+  pub looks : resolved x 1 (opens s stack) ≡ resolved x index (opens s (drop passed stack))
 
-pub looks_first : (s : List ℕ) (stack : List (Option Binder)) (x : List ℕ) (count : ℕ) → Looks s stack x count count 1
-looks_first s stack x count = record { few = omega arith; low = omega arith; looks = refl }
+pub looks_first : (s : List ℕ) (stack : List (Option Binder)) (x : List ℕ) → Looks s stack x 0 1
+looks_first s stack x = record { low = omega arith; looks = refl }
 
-module _ {s : List ℕ} {stack : List (Option Binder)} {x : List ℕ} {count left index : ℕ}
-    (so_far : Looks s stack x count left index) where
+-- a binder that is open has its name in the text
+pub held_there : {s : List ℕ} {stack : List (Option Binder)} → Opened s stack → (n : ℕ) (w : Option Binder)
+    → (n < length stack) × (w ≡ get_or stack n w) → {y : Binder} → w ≡ Some y → Inside s (name_at y)
+held_there {stack = stack} opened n w (there, same) is =
+    rw (get_or_default stack n None w there ∙ sym same ∙ is) at (opened.inside n there)
+
+module _ {s : List ℕ} {stack : List (Option Binder)} {x : List ℕ} {index : ℕ} {B : Type 0} (given_so : List B)
+    (so_far : Looks s stack x (length given_so) index) where
+  one_more : (z : B) → length (given_so ++ z ∷ []) ≡ suc (length given_so)
+  one_more z = omega (arith, length-append given_so (z ∷ []))
+
   -- nothing is left
-  pub looked_all : left ≤ 0 → found None ≡ resolved x 1 (opens s stack count)
+  pub looked_all : length stack ≤ length given_so → found None ≡ resolved x 1 (opens s stack)
   unfolding opens resolved
-  looked_all none_left = let e : left ≡ 0 = omega arith in sym (so_far.looks ∙ rw e)
+  looked_all all = sym (so_far.looks ∙ rw (drop_of_length-le stack all))
 
-  module _ (some_left : 0 < left) where
-    one_left : suc (left - 1) ≡ left
-    one_left = omega arith
+  module _ (w : Option Binder) (t : (length given_so < length stack) × (w ≡ get_or stack (length given_so) w)) where
+    one_left : drop (length given_so) stack ≡ w ∷ drop (suc (length given_so)) stack
+    one_left = drop-cons stack (length given_so) w t.0 ∙ ap (λ y. y ∷ drop (suc (length given_so)) stack) (sym t.1)
 
-    pub looks_past-group : get_or stack (left - 1) None ≡ None → Looks s stack x count (left - 1) index
-    looks_past-group e = record {
-      few = omega (arith, so_far.few);
+    here : (y : Option Binder) → w ≡ y → resolved x 1 (opens s stack)
+        ≡ resolved x index (opens s (y ∷ drop (suc (length given_so)) stack))
+    here y is = so_far.looks ∙ ap (λ ws. resolved x index (opens s ws)) (one_left ∙ ap (λ y. y ∷ drop (suc (length given_so)) stack) is)
+
+    pub looks_past-group : w ≡ None → (z : B) → Looks s stack x (length (given_so ++ z ∷ [])) index
+    looks_past-group is z = rw (one_more z) (record {
       low = omega (arith, so_far.low);
-      looks = so_far.looks ∙ rw one_left at (past-group s stack x index (left - 1) e);
-    }
+      looks = here None is ∙ past-group s x index _;
+    })
 
-    module _ {y : Binder} (binds : get_or stack (left - 1) None ≡ Some y) where
-      pub looks_past-binder : same_text x (name_of s (name_at y)) ≡ false → Looks s stack x count (left - 1) (index + 1)
-      looks_past-binder e =
+    module _ {y : Binder} (binds : w ≡ Some y) where
+      pub looks_past-binder : same_text x (name_of s (name_at y)) ≡ false
+          → (z : B) → Looks s stack x (length (given_so ++ z ∷ [])) (index + 1)
+      looks_past-binder e z =
           let next-index : suc index ≡ index + 1 = omega arith in
-          record {
-            few = omega (arith, so_far.few);
+          rw (one_more z) (record {
             low = omega (arith, so_far.low);
-            looks = so_far.looks ∙ rw (one_left, next-index) at (past-binder s stack x index (left - 1) binds e);
-          }
+            looks = here (Some y) binds ∙ rw next-index at (past-binder s x index (drop (suc (length given_so)) stack) y e);
+          })
 
-      pub looked_up : same_text x (name_of s (name_at y)) ≡ true → found (Some index) ≡ resolved x 1 (opens s stack count)
-      looked_up e = sym (so_far.looks ∙ rw one_left at (is-binder s stack x index (left - 1) binds e))
-
--- what an iterator from the end gives next
-pub given_next : {A : Type 0} (xs : List A) (count n : ℕ) (d x : A) → count ≤ length xs
-    → (n < length (reverse (take count xs))) × (x ≡ get_or (reverse (take count xs)) n x)
-    → (0 < count - n) × (get_or xs (count - n - 1) d ≡ x)
-given_next {A} xs count n d x few (inside, is) =
-    let long = length-take-le count xs few in
-    let below : n < count = omega (arith, inside, length-reverse (take count xs), long) in
-    let at : length (take count xs) - 1 - n ≡ count - n - 1 = omega (arith, long) in (
-      omega arith,
-      get_or_default xs (count - n - 1) d x (omega arith)
-          ∙ sym (is ∙ get_or-reverse (take count xs) n x (omega arith)
-          ∙ ap (λ k. get_or (take count xs) k x) at
-          ∙ get_or-take count xs (count - n - 1) x (omega arith)),
-    )
-
--- one was given, so one fewer is left
-pub one_fewer : (count : ℕ) {A : Type 0} (given_so : List A) (x : A) {s : List ℕ} {stack : List (Option Binder)}
-    {y : List ℕ} {all index : ℕ} → Looks s stack y all (count - length given_so - 1) index
-    → Looks s stack y all (count - length (given_so ++ x ∷ [])) index
-one_fewer count given_so x looks =
-    let e : count - length (given_so ++ x ∷ []) ≡ count - length given_so - 1 =
-    omega (arith, length-append given_so (x ∷ [])) in rw e looks
-
--- all were given
-pub none_left : {A B : Type 0} (xs : List A) (count : ℕ) (given_so : List B)
-    → length given_so ≡ length (reverse (take count xs)) → count ≤ length xs → count - length given_so ≤ 0
-none_left xs count given_so all few =
-    omega (arith, all, length-reverse (take count xs), length-take-le count xs few)
+      pub looked_up : same_text x (name_of s (name_at y)) ≡ true → found (Some index) ≡ resolved x 1 (opens s stack)
+      looked_up e = sym (here (Some y) binds ∙ is-binder s x index _ y e)
 
 -- THE WORDS AHEAD of a place whose words are valid
 after-word : {w : Word} (here after : Answer (List Word)) → here ≡ (after then (λ ws. given (w ∷ ws)))

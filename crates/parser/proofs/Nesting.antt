@@ -1,11 +1,11 @@
 -- A sequence inside a sequence: how a group and the body of an abstraction are read, and what stops them.
 use Prim.Native.Nat.{ℕ, ◌+◌, ◌*◌, ◌≤◌, ◌<◌}
-use mathlib.Core.Path.{◌≡◌, ap, ◌∙◌}
+use mathlib.Core.Path.{◌≡◌, refl, sym, ap, ◌∙◌}
 use mathlib.Core.Bool.{Bool}
 use mathlib.Core.List.{List, ◌∷◌}
 use native.Mathlib.Omega.{arith}
 use native.Mathlib.Numerals.{add-one}
-use lib.ListN.{length, set}
+use lib.ListN.{length}
 use Rattle.std.specs.Prelude.{Option, Some, None, Result, Ok, Err}
 use Rattle.calculus.specs.Bounds.{most_open, most_text}
 use Rattle.calculus.specs.Refusal.{refused}
@@ -28,93 +28,91 @@ use Rattle.parser.specs.Sequences.{Reads, Enters, no_more, one_more, Groups}
 use Rattle.parser.specs.declared.building.Built.{Built}
 use Rattle.parser.specs.declared.sequences.Went.{Went}
 use Rattle.parser.proofs.Going.{goes-too_high, goes-group, goes-body, goes-refused}
-use Rattle.parser.proofs.Openings.{kept_refl, kept_then, kept_set, opens_more, opened_more, opens-length}
+use Rattle.parser.proofs.Openings.{inner, opens_more, opened_more, opens-length}
 use Rattle.parser.proofs.Meaning.{means-grows, means-kept}
 use Rattle.parser.proofs.Turns.{SoFar, same-open, beside-void, one_item, stops}
 
 -- WHAT OPENED, and came to its end
-ends_of : {n : Notation} {s : List ℕ} {os : List Open} {count : ℕ} {w : Option Binder} {most : ℕ} {from : Cursor} {base : ℕ}
-    {store : List ℕ} {went : Went} → Enters n s os count w most from base store (Ok went)
+ends_of : {n : Notation} {s : List ℕ} {os : List Open} {w : Option Binder} {most : ℕ} {from : Cursor} {base : ℕ}
+    {store : List ℕ} {went : Went} → Enters n s os w most from base store (Ok went)
     → Ends n s (open_of s w ∷ os) most from base store went.read went.here went.closed
 ends_of (one_more few (to_its_end ends)) = ends
 
-few-open : {n : Notation} {s : List ℕ} {os : List Open} {count : ℕ} {w : Option Binder} {most : ℕ} {from : Cursor} {base : ℕ}
-    {store : List ℕ} {went : Went} → Enters n s os count w most from base store (Ok went)
-    → count < most_open
+few-open : {n : Notation} {s : List ℕ} {os : List Open} {w : Option Binder} {most : ℕ} {from : Cursor} {base : ℕ}
+    {store : List ℕ} {went : Went} → Enters n s os w most from base store (Ok went)
+    → length os < most_open
 few-open (one_more few comes) = few
 
 -- or to a refusal: 6 or 7 inside, or 7 here
-inside-stops : {n : Notation} {s : List ℕ} {os : List Open} {count : ℕ} {w : Option Binder} {most : ℕ} {after : Cursor}
-    {used : ℕ} {store : List ℕ} {e : Refusal} → length os ≡ count → Enters n s os count w most after used store (Err e)
+inside-stops : {n : Notation} {s : List ℕ} {os : List Open} {w : Option Binder} {most : ℕ} {after : Cursor}
+    {used : ℕ} {store : List ℕ} {e : Refusal} → Enters n s os w most after used store (Err e)
     → (st : State) (ps : List Waits)
     → go os (word_of (open_of s w) ∷ words_on n s after.at) st ps ≡ refused (refusal_of e)
-inside-stops {n} {s} {os} {w = w} {after = after} long (no_more deep) st ps =
+inside-stops {n} {s} {os} {w = w} {after = after} (no_more deep) st ps =
     goes-too_high (open_of s w) os (words_on n s after.at) st ps (omega arith)
-inside-stops {n} {s} {os} {w = w} {after = after} {e = e} long (one_more few (to_a_refusal goes)) st ps =
+inside-stops {n} {s} {os} {w = w} {after = after} {e = e} (one_more few (to_a_refusal goes)) st ps =
     goes-refused (open_of s w) os (words_on n s after.at) st ps (refusal_of e) (omega arith) goes
 
 -- ONE MORE OPEN, or 7
-module _ {n : Notation} {s : List ℕ} {stack : List (Option Binder)} {count : ℕ} {store : List ℕ} {most : ℕ}
+module _ {n : Notation} {s : List ℕ} {stack : List (Option Binder)} {store : List ℕ} {most : ℕ}
     {from : Cursor} {base : ℕ}
-    (ready : Ready n s stack count store most from base) where
-  pub too_many-open : {opening : Option Binder} → most_open ≤ count
-      → Groups n s stack count opening store most from base (Err TooHigh) stack store
-  too_many-open deep = record { enters = no_more deep; kept = kept_refl stack count; same = same_refl store base }
+    (ready : Ready n s stack store most from base) where
+  pub too_many-open : {opening : Option Binder} → most_open ≤ length stack
+      → Groups n s stack opening store most from base (Err TooHigh) stack store
+  too_many-open deep = record { enters = no_more (omega (arith, opens-length s stack)); kept = refl; same = same_refl store base }
 
-  module _ (few : count < most_open) where
-    in_stack : count < length stack
-    in_stack = omega (arith, ready.opened.as_long)
-
+  module _ (few : length stack < most_open) where
     pub ready-opened : (opening : Option Binder) → Held s opening
-        → Ready n s (set stack count opening) (count + 1) store most from base
+        → Ready n s (opening ∷ stack) store most from base
     ready-opened opening inside = record {
       placed = ready.placed;
       valid = ready.valid;
-      opened = opened_more s stack count opening in_stack ready.opened few inside;
+      opened = opened_more s stack opening ready.opened few inside;
       roomy = ready.roomy;
       few = ready.few;
     }
 
     pub group-enters : (opening : Option Binder) {r : Result Went Refusal} {stack' : List (Option Binder)} {store' : List ℕ}
-        → Reads n s (set stack count opening) (count + 1) store most from base r stack' store'
-        → Groups n s stack count opening store most from base r stack' store'
-    group-enters opening reads = record {
-      enters = one_more few (rw (add-one, opens_more s stack count opening in_stack) at reads.comes);
-      kept = kept_then (omega arith) (kept_set stack count opening) reads.kept;
+        → Reads n s (opening ∷ stack) store most from base r stack' store'
+        → {x : Option Binder} {stack'' : List (Option Binder)} → stack' ≡ x ∷ stack''
+        → Groups n s stack opening store most from base r stack'' store'
+    group-enters opening reads popped = record {
+      enters = one_more (omega (arith, opens-length s stack)) (rw (opens_more s stack opening) at reads.comes);
+      kept = ap inner (sym popped ∙ reads.kept);
       same = reads.same;
     }
 
 -- the law by which `group` refuses
 pub ruleset refusing = (too_many-open)
 
-module _ {n : Notation} {s : List ℕ} {stack : List (Option Binder)} {count : ℕ} {store : List ℕ} {most : ℕ}
+module _ {n : Notation} {s : List ℕ} {stack : List (Option Binder)} {store : List ℕ} {most : ℕ}
     {from : Cursor} {base : ℕ}
     {stack' : List (Option Binder)} {store' : List ℕ} {here : Cursor} {read : Built}
-    (so_far : SoFar n s stack count store most from base stack' store' here read)
-    {after : Cursor} {w : Option Binder} (met : MetOpening n s (opens s stack' count) here w after)
+    (so_far : SoFar n s stack store most from base stack' store' here read)
+    {after : Cursor} {w : Option Binder} (met : MetOpening n s (opens s stack') here w after)
     {stack'' : List (Option Binder)} {store'' : List ℕ} where
   -- 6 or 7 inside, or 7 here
   pub nested_stops : {r : Result Went Refusal} {e : Refusal} → r ≡ Err e
-      → Groups n s stack' count w store' most after read.used r stack'' store''
-      → Reads n s stack count store most from base (Err e) stack'' store''
+      → Groups n s stack' w store' most after read.used r stack'' store''
+      → Reads n s stack store most from base (Err e) stack'' store''
   nested_stops {e = e} is groups = record {
     comes = to_a_refusal (stops so_far e
         (λ st ps. rw met.ahead
-        (inside-stops (opens-length s stack count) (rw (is, same-open so_far) at groups.enters) st ps)));
-    kept = kept_then (omega arith) so_far.kept groups.kept;
+        (inside-stops (rw (is, same-open so_far) at groups.enters) st ps)));
+    kept = groups.kept ∙ so_far.kept;
     same = same_then (means-grows so_far.reaches.means) so_far.same groups.same;
   }
 
   module _ {r : Result Went Refusal} {inner : Built} {last : Cursor} {closed : Bool}
       (is : r ≡ Ok (record { read = inner; here = last; closed = closed }))
-      (groups : Groups n s stack' count w store' most after read.used r stack'' store'') where
-    inside : Ends n s (open_of s w ∷ opens s stack count) most after read.used store'' inner last closed
+      (groups : Groups n s stack' w store' most after read.used r stack'' store'') where
+    inside : Ends n s (open_of s w ∷ opens s stack) most after read.used store'' inner last closed
     inside = rw (same-open so_far) at (ends_of (rw is at groups.enters))
 
-    few_there : length (opens s stack count) < most_open
-    few_there = omega (arith, opens-length s stack count, few-open (rw is at groups.enters))
+    few_there : length (opens s stack) < most_open
+    few_there = rw (same-open so_far) at (few-open (rw is at groups.enters))
 
-    pub last-few : Clean s → Ready n s stack count store most from base → inner.used ≤ 2 * most_text
+    pub last-few : Clean s → Ready n s stack store most from base → inner.used ≤ 2 * most_text
     last-few clean ready =
         omega (
           arith,
@@ -129,7 +127,7 @@ module _ {n : Notation} {s : List ℕ} {stack : List (Option Binder)} {count : �
     went_on =
         (omega (arith, met.moved, inside.reaches.step.forward), inside.reaches.step.placed.inside)
 
-    pub roomy_after : Clean s → Ready n s stack count store most from base → Roomy store'' most inner.used
+    pub roomy_after : Clean s → Ready n s stack store most from base → Roomy store'' most inner.used
     roomy_after clean ready = record {
       in_bounds = ready.roomy.in_bounds;
       room = omega (arith, ready.roomy.room, so_far.same.as_long, groups.same.as_long);
@@ -150,7 +148,7 @@ module _ {n : Notation} {s : List ℕ} {stack : List (Option Binder)} {count : �
 
     -- A GROUP: its sequence is the next item
     pub group-read : w ≡ None → {store''' : List ℕ} {more : Built} → Joins store'' most read inner store''' more
-        → SoFar n s stack count store most from base stack'' store''' last more
+        → SoFar n s stack store most from base stack'' store''' last more
     unfolding word_of
     group-read is-group {more = more} joins =
         let reaches = inside.reaches in
@@ -165,12 +163,12 @@ module _ {n : Notation} {s : List ℕ} {stack : List (Option Binder)} {count : �
         (joins.means base so_far.state inside.state (means-kept groups.same so_far.reaches.means)
         reaches.means)
         (λ st ps. rw (rw (is_open is-group) at met.ahead)
-        (goes-group (opens s stack count) (words_on n s after.at) (words_on n s last.at) closed st
+        (goes-group (opens s stack) (words_on n s after.at) (words_on n s last.at) closed st
         inside.state ps few_there (rw (is_open is-group) at inside.goes) inside.last))
 
     -- AN ABSTRACTION: its body, and so its sequence, ends where the rest of the sequence ends
     body-ends : {x : Binder} → w ≡ Some x → {store''' : List ℕ} {more : Built} → JoinsUnder store'' most read inner store''' more
-        → Comes n s (opens s stack count) most from base store''' (Ok (record { read = more; here = last; closed = closed }))
+        → Comes n s (opens s stack) most from base store''' (Ok (record { read = more; here = last; closed = closed }))
     unfolding word_of
     body-ends {x} binds {more = more} joins =
         let reaches = inside.reaches in
@@ -190,20 +188,20 @@ module _ {n : Notation} {s : List ℕ} {stack : List (Option Binder)} {count : �
           goes = λ failed ps.
               so_far.goes failed ps
               ∙ rw (rw (is_open binds) at met.ahead)
-              (goes-body (opens s stack count) (words_on n s after.at) (words_on n s last.at) closed
+              (goes-body (opens s stack) (words_on n s after.at) (words_on n s last.at) closed
               (unless_void failed so_far.state) inside.state ps few_there (name_of s (name_at x))
               (rw (is_open binds) at inside.goes))
-              ∙ ap (λ (st : State). go (opens s stack count) (ended closed (words_on n s last.at)) st ps)
+              ∙ ap (λ (st : State). go (opens s stack) (ended closed (words_on n s last.at)) st ps)
               (beside-void failed so_far.state (under inside.state));
         })
 
     pub body-read : {x : Binder} → w ≡ Some x → {store''' : List ℕ} {more : Built}
         → JoinsUnder store'' most read inner store''' more
-        → Reads n s stack count store most from base (Ok (record { read = more; here = last; closed = closed })) stack''
+        → Reads n s stack store most from base (Ok (record { read = more; here = last; closed = closed })) stack''
         store'''
     body-read binds {more = more} joins = record {
       comes = body-ends binds joins;
-      kept = kept_then (omega arith) so_far.kept groups.kept;
+      kept = groups.kept ∙ so_far.kept;
       same = same_then (omega (arith, means-grows so_far.reaches.means, means-grows inside.reaches.means))
           (same_then (means-grows so_far.reaches.means) so_far.same groups.same) joins.adds.same;
     }

@@ -1,5 +1,5 @@
--- What is open at a word, as an array tells it: a group, or a binder by the place of its name.
-use Rattle.std.specs.Prelude.{ℕ, zero, suc, ◌≤◌, ◌<◌, ◌≡◌, List, [], ◌∷◌, length, get_or, Option, Some, None, ⊤}
+-- What is open at a word, the innermost first: a group, or a binder by the place of its name.
+use Rattle.std.specs.Prelude.{ℕ, ◌≤◌, ◌<◌, List, [], ◌∷◌, length, get_or, Option, Some, None, ⊤}
 use Rattle.std.proofs.Math.Option as maybe
 use Rattle.calculus.specs.Bounds.{most_open}
 use Rattle.calculus.specs.Walk.{Open, group, bound}
@@ -17,26 +17,19 @@ abbrev pub open_of : List ℕ → Option Binder → Open
 open_of s None = group
 open_of s (Some x) = bound (name_of s (name_at x))
 
--- the first so many, the last of them innermost
-unfoldable pub opens : (s : List ℕ) (stack : List (Option Binder)) → ℕ → List Open
-opens s stack zero = []
-opens s stack (suc k) = open_of s (get_or stack k None) ∷ opens s stack k
+unfoldable pub opens : (s : List ℕ) (stack : List (Option Binder)) → List Open
+opens s [] = []
+opens s (w ∷ ws) = open_of s w ∷ opens s ws
 
 -- a binder's name is in the text
 abbrev pub Held : List ℕ → Option Binder → Type 0
 Held s None = ⊤
 Held s (Some x) = Inside s (name_at x)
 
--- the array has a place for all that may be open, and what is open is in the text
-pub record Opened (s : List ℕ) (stack : List (Option Binder)) (count : ℕ) : Type 0 where
-  pub as_long : length stack ≡ most_open
-  pub few : count ≤ most_open
-  pub inside : (k : ℕ) → k < count → Held s (get_or stack k None)
-
--- the first so many of an array stay
-pub record Kept (xs ys : List (Option Binder)) (count : ℕ) : Type 0 where
-  pub as_long : length ys ≡ length xs
-  pub kept : (k : ℕ) → k < count → get_or ys k None ≡ get_or xs k None
+-- no more is open than may be, and it is in the text
+pub record Opened (s : List ℕ) (stack : List (Option Binder)) : Type 0 where
+  pub few : length stack ≤ most_open
+  pub inside : (k : ℕ) → k < length stack → Held s (get_or stack k None)
 
 -- what a search told, as a definition says it
 abbrev pub found : Option ℕ → maybe.Option ℕ

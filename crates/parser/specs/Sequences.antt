@@ -1,5 +1,5 @@
 -- What reading a sequence, and a group, asks and gives.
-use Rattle.std.specs.Prelude.{ℕ, ◌+◌, ◌*◌, ◌≤◌, ◌<◌, ◌≡◌, Bool, false, List, [], ◌∷◌, Option, Result, Ok, Err}
+use Rattle.std.specs.Prelude.{ℕ, ◌+◌, ◌*◌, ◌≤◌, ◌<◌, ◌≡◌, Bool, false, List, [], ◌∷◌, length, Option, Result, Ok, Err}
 use Rattle.std.proofs.Math.Option.{none}
 use Rattle.calculus.specs.Bounds.{most_open}
 use Rattle.calculus.specs.Refusal.{Answer, refused}
@@ -15,7 +15,7 @@ use Rattle.words.specs.Places.{Placed}
 use Rattle.words.specs.declared.Cursor.{Cursor}
 use Rattle.parser.specs.declared.tokens.Binder.{Binder}
 use Rattle.nodes.specs.Store.{Same}
-use Rattle.parser.specs.Opens.{open_of, opens, Opened, Kept}
+use Rattle.parser.specs.Opens.{open_of, opens, Opened}
 use Rattle.parser.specs.States.{State, reading, go, unless_void, ended}
 use Rattle.parser.specs.Tokens.{words_on, Valid, Onward}
 use Rattle.parser.specs.Building.{Means, Roomy}
@@ -23,11 +23,11 @@ use Rattle.parser.specs.declared.building.Built.{Built}
 use Rattle.parser.specs.declared.sequences.Went.{Went}
 
 -- a place in a text, what is open there, and the store
-pub record Ready (n : Notation) (s : List ℕ) (stack : List (Option Binder)) (count : ℕ) (store : List ℕ) (cap : ℕ) (from : Cursor) (base : ℕ) :
+pub record Ready (n : Notation) (s : List ℕ) (stack : List (Option Binder)) (store : List ℕ) (cap : ℕ) (from : Cursor) (base : ℕ) :
     Type 0 where
   pub placed : Placed s from
   pub valid : Valid n s from.at
-  pub opened : Opened s stack count
+  pub opened : Opened s stack
   pub roomy : Roomy store cap base
   pub few : base ≤ 2 * from.at
 
@@ -62,21 +62,21 @@ pub data Comes (n : Notation) (s : List ℕ) (os : List Open) (cap : ℕ) (from 
       → Comes n s os cap from base store (Err e)
 
 -- what was open, and the nodes made before, stay
-pub record Reads (n : Notation) (s : List ℕ) (stack : List (Option Binder)) (count : ℕ) (store : List ℕ) (cap : ℕ) (from : Cursor) (base : ℕ)
+pub record Reads (n : Notation) (s : List ℕ) (stack : List (Option Binder)) (store : List ℕ) (cap : ℕ) (from : Cursor) (base : ℕ)
     (r : Result Went Refusal) (stack' : List (Option Binder)) (store' : List ℕ) : Type 0 where
-  pub comes : Comes n s (opens s stack count) cap from base store' r
-  pub kept : Kept stack stack' count
+  pub comes : Comes n s (opens s stack) cap from base store' r
+  pub kept : stack' ≡ stack
   pub same : Same store store' base
 
 -- with one more open, or 7
-pub data Enters (n : Notation) (s : List ℕ) (os : List Open) (count : ℕ) (opening : Option Binder) (cap : ℕ)
+pub data Enters (n : Notation) (s : List ℕ) (os : List Open) (opening : Option Binder) (cap : ℕ)
     (from : Cursor) (base : ℕ) (store : List ℕ) : Result Went Refusal → Type 0 where
-  no_more : most_open ≤ count → Enters n s os count opening cap from base store (Err TooHigh)
-  one_more : {r : Result Went Refusal} → count < most_open → Comes n s (open_of s opening ∷ os) cap from base store r
-      → Enters n s os count opening cap from base store r
+  no_more : most_open ≤ length os → Enters n s os opening cap from base store (Err TooHigh)
+  one_more : {r : Result Went Refusal} → length os < most_open → Comes n s (open_of s opening ∷ os) cap from base store r
+      → Enters n s os opening cap from base store r
 
-pub record Groups (n : Notation) (s : List ℕ) (stack : List (Option Binder)) (count : ℕ) (opening : Option Binder)
+pub record Groups (n : Notation) (s : List ℕ) (stack : List (Option Binder)) (opening : Option Binder)
     (store : List ℕ) (cap : ℕ) (from : Cursor) (base : ℕ) (r : Result Went Refusal) (stack' : List (Option Binder)) (store' : List ℕ) : Type 0 where
-  pub enters : Enters n s (opens s stack count) count opening cap from base store' r
-  pub kept : Kept stack stack' count
+  pub enters : Enters n s (opens s stack) opening cap from base store' r
+  pub kept : stack' ≡ stack
   pub same : Same store store' base

@@ -2,6 +2,7 @@
 #![tactic(auto)]
 
 mod building;
+mod opens;
 mod sequences;
 mod tokens;
 
@@ -20,8 +21,9 @@ ghost use Rattle.nodes.specs.Working.{Works};
 ghost use Rattle.parser.specs.Parsing.{Storable, Saves};
 
 use building::{Built, Part};
-use calculus::{MOST_HEIGHT, MOST_OPEN, ROOM_PER_NODE};
+use calculus::{MOST_HEIGHT, ROOM_PER_NODE};
 use nodes::lending::grant;
+use opens::Opens;
 use sequences::sequence;
 use term::{Notation, Refusal};
 use words::Cursor;
@@ -59,9 +61,9 @@ fn build(
     ensures { Works (stored (go [] (words_on (notation_of notation) text.entry.bytes.now 0) (reading none) []
         then within cap then coded) out.old) store.old (told result) out.new store.new }
 {
-    let mut stack = [None; MOST_OPEN];
+    let mut stack = Opens::new();
     let start = Cursor { at: 0, chars: 0 };
-    let went = sequence(text, notation, &mut stack, 0, store, cap, start, 0)?;
+    let went = sequence(text, notation, &mut stack, store, cap, start, 0)?;
     save(store, cap, went.read, out)
 }
 
@@ -77,10 +79,8 @@ fn read(
     ensures { Works (stored (read_text (notation_of notation) cap text.now then coded) out.old)
         store.old (told result) out.new store.new }
 {
-    match words::judge(notation, text) {
-        Err(why) => Err(why),
-        Ok(text) => build(notation, cap, text, out, store),
-    }
+    let clean = words::judge(notation, text)?;
+    build(notation, cap, clean, out, store)
 }
 
 // 1, 2, then the work, after which the room is cleared.

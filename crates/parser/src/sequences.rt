@@ -4,6 +4,7 @@ ghost use Rattle.parser.specs.Opens.{Held};
 ghost use Rattle.parser.specs.Sequences.{Ready, Reads, Groups};
 
 use crate::building::{Built, Part, joined, with_abstraction, with_variable};
+use crate::opens::Opens;
 use crate::tokens::{Binder, Token, token_at};
 use calculus::MOST_OPEN;
 use term::{Notation, Refusal};
@@ -23,16 +24,14 @@ pub(crate) struct Went {
 pub(crate) fn sequence(
     text: Text,
     notation: Notation,
-    stack: &mut [Option<Binder>],
-    count: usize,
+    stack: &mut Opens,
     store: &mut [u64],
     cap: usize,
     from: Cursor,
     base: usize,
 ) -> Result<Went, Refusal>
-    requires { Ready (notation_of notation) text.bytes.now stack.old count store.old cap from base }
-    ensures { Reads (notation_of notation) text.entry.bytes.now stack.old count
-        store.old cap from base result stack.new store.new }
+    requires { Ready (notation_of notation) text.bytes.now stack.old store.old cap from base }
+    ensures { Reads (notation_of notation) text.entry.bytes.now stack.old store.old cap from base result stack.new store.new }
 {
     let mut here = from;
     let mut read = Built {
@@ -40,16 +39,14 @@ pub(crate) fn sequence(
         used: base,
     };
     loop {
-        let (token, next) = token_at(text, notation, stack, count, here)?;
+        let (token, next) = token_at(text, notation, stack, here)?;
         match token {
             Token::Index(index) => {
                 read = with_variable(store, cap, read, index);
                 here = next;
             }
             Token::Open(opening) => {
-                let went = group(
-                    text, notation, stack, count, opening, store, cap, next, read.used,
-                )?;
+                let went = group(text, notation, stack, opening, store, cap, next, read.used)?;
                 if let Some(_) = opening {
                     return Ok(Went {
                         read: with_abstraction(store, cap, read, went.read),
@@ -84,22 +81,23 @@ pub(crate) fn sequence(
 fn group(
     text: Text,
     notation: Notation,
-    stack: &mut [Option<Binder>],
-    count: usize,
+    stack: &mut Opens,
     opening: Option<Binder>,
     store: &mut [u64],
     cap: usize,
     from: Cursor,
     base: usize,
 ) -> Result<Went, Refusal>
-    requires { Ready (notation_of notation) text.bytes.now stack.old count store.old cap from base
+    requires { Ready (notation_of notation) text.bytes.now stack.old store.old cap from base
         × Held text.bytes.now opening }
-    ensures { Groups (notation_of notation) text.entry.bytes.now stack.old count opening
+    ensures { Groups (notation_of notation) text.entry.bytes.now stack.old opening
         store.old cap from base result stack.new store.new }
 {
-    if MOST_OPEN <= count {
+    if MOST_OPEN <= stack.len() {
         return Err(Refusal::TooHigh);
     }
-    stack[count] = opening;
-    sequence(text, notation, stack, count + 1, store, cap, from, base)
+    stack.push(opening);
+    let went = sequence(text, notation, stack, store, cap, from, base);
+    stack.pop();
+    went
 }

@@ -1,12 +1,12 @@
 // The tokens of the walk: words whose names are resolved among what is open, which a stack holds.
 ghost use Rattle.std.specs.Prelude.{◌≡◌, ◌≤◌};
 ghost use Rattle.calculus.specs.Bounds.{most_text};
-ghost use Rattle.calculus.specs.Walk.{resolved};
 ghost use Rattle.term.specs.Notations.{notation_of};
-ghost use Rattle.words.specs.Places.{Placed, Inside, name_of};
-ghost use Rattle.parser.specs.Opens.{opens, Opened, found, binder_of, name_at};
+ghost use Rattle.words.specs.Places.{Placed};
+ghost use Rattle.parser.specs.Opens.{opens, Opened, binder_of, name_at};
 ghost use Rattle.parser.specs.Tokens.{Valid, Meets};
 
+use crate::opens::Opens;
 use term::{Notation, Refusal};
 use words::text::Text;
 use words::{Cursor, Name, Word};
@@ -29,7 +29,7 @@ impl Binder {
         }
     }
 
-    fn name(self) -> Name
+    pub(crate) fn name(self) -> Name
         ensures { result ≡ name_at self }
     {
         Name {
@@ -37,24 +37,6 @@ impl Binder {
             to: self.to as usize,
         }
     }
-}
-
-// The index that a name has among what is open, from the innermost binder out.
-fn resolve(text: Text, stack: &[Option<Binder>], count: usize, name: Name) -> Option<u64>
-    requires { Inside text.bytes.now name × Opened text.bytes.now stack.now count }
-    ensures { found result ≡ resolved (name_of text.entry.bytes.now name) 1
-        (opens text.entry.bytes.now stack.now count) }
-{
-    let mut index = 1;
-    for open in stack[..count].iter().rev() {
-        if let Some(binder) = *open {
-            if text.same_name(name, binder.name()) {
-                return Some(index);
-            }
-            index += 1;
-        }
-    }
-    None
 }
 
 // What opens is a `(`, or a binder by its name.
@@ -70,21 +52,20 @@ pub(crate) enum Token {
 pub(crate) fn token_at(
     text: Text,
     notation: Notation,
-    stack: &[Option<Binder>],
-    count: usize,
+    stack: &Opens,
     here: Cursor,
 ) -> Result<(Token, Cursor), Refusal>
     requires { Placed text.bytes.now here × Valid (notation_of notation) text.bytes.now here.at
-        × Opened text.bytes.now stack.now count }
+        × Opened text.bytes.now stack.now }
     ensures { Meets (notation_of notation) text.entry.bytes.now
-        (opens text.entry.bytes.now stack.now count) here result }
+        (opens text.entry.bytes.now stack.now) here result }
 {
     let step = here.next(text, notation);
     let next = step.next;
     match step.word {
         Word::Number(index) => Ok((Token::Index(index), next)),
         Word::Named(name) => {
-            let Some(index) = resolve(text, stack, count, name) else {
+            let Some(index) = stack.resolve(text, name) else {
                 return Err(Refusal::UndefinedFreeVariable);
             };
             Ok((Token::Index(index), next))

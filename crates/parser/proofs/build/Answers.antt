@@ -1,22 +1,21 @@
 -- `parser::build` meets its contract: the whole text is one sequence with nothing open.
-use mathlib.Core.Path.{refl}
 use Rattle.std.proofs.lemmas.Result.{err_from_is_err_and}
 use Rattle.parser.proofs.Answering.{ready-first, works_stopped, storable, works_on}
 use Rattle.parser.proofs.build.Goals as goal
 
 pub sequence-requires : goal.sequence-requires
 sequence-requires c =
-    ready-first _ refl c.requires.0 c.requires.1
+    rw c.new-stack.ensures (ready-first c.requires.0 c.requires.1)
 
 pub returns-in_err-went : goal.returns-in_err-went
 returns-in_err-went c =
     let p = err_from_is_err_and c.from_residual.result c.from_residual.ensures.1 in
-    rw (p.1, p.2) (works_stopped c.sequence.ensures _ _ c.in_err-went.was)
+    rw (p.1, p.2) (works_stopped (rw c.new-stack.ensures at c.sequence.ensures) _ _ c.in_err-went.was)
 
 pub save-requires : goal.save-requires
 save-requires c =
-    storable c.sequence.ensures _ c.in_ok-went.was c.requires.0
+    storable (rw c.new-stack.ensures at c.sequence.ensures) _ c.in_ok-went.was c.requires.0
 
 pub returns : goal.returns
 returns c =
-    works_on c.sequence.ensures _ c.in_ok-went.was c.save.ensures
+    works_on (rw c.new-stack.ensures at c.sequence.ensures) _ c.in_ok-went.was c.save.ensures

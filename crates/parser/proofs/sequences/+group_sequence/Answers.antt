@@ -9,25 +9,12 @@ use Rattle.parser.proofs.Nesting.{ready-opened, group-enters, nested_stops, grou
 use Rattle.parser.proofs.Nesting.{last-few, went_on, roomy_after, joinable-after}
 use Rattle.parser.proofs.sequences.+group_sequence.Goals as goal
 
-pub group-bounds-stack-count : goal.group-bounds-stack-count
-group-bounds-stack-count t c = omega (arith, c.requires.0.opened.as_long)
-
-pub group-sequence-requires : goal.group-sequence-requires
-group-sequence-requires t c =
-    (omega (arith, c.decreases), ready-opened c.requires.0 (omega arith) _ c.requires.1)
-
-pub group-shape_of-stack : goal.group-shape_of-stack
-group-shape_of-stack t c =
-    (group-enters c.requires.0 (omega arith) c.args.opening c.sequence.ensures).kept.as_long
-
-pub group-shape_of-store : goal.group-shape_of-store
-group-shape_of-store t c = c.sequence.ensures.same.as_long
-
 pub group-returns : goal.group-returns
-group-returns t c = group-enters c.requires.0 (omega arith) _ c.sequence.ensures
+group-returns t c =
+    group-enters c.requires.0 (omega (arith, c.len.ensures)) _ (rw c.push.ensures at c.sequence-went.ensures) c.pop.ensures
 
 pub sequence-loop-token-init : goal.sequence-loop-token-init
-sequence-loop-token-init t c = at_first _ _ _ _ _ _ _ _ c.requires
+sequence-loop-token-init t c = at_first _ _ _ _ _ _ _ c.requires
 
 pub sequence-token_at-requires : goal.sequence-token_at-requires
 sequence-token_at-requires t c =

@@ -13,7 +13,7 @@ decreases-sequence l = 2 * (length l.text.bytes.now - l.from.at)
 
 abbrev pub invariant-sequence-loop-token : goal.invariant-sequence-loop-token
 invariant-sequence-loop-token l =
-    SoFar (notation_of l.notation) l.text.bytes.now l.initial.stack l.count l.initial.store l.cap l.initial.here l.base l.stack l.store l.here l.read
+    SoFar (notation_of l.notation) l.text.bytes.now l.initial.stack l.initial.store l.cap l.initial.here l.base l.stack l.store l.here l.read
 
 abbrev pub decreases-sequence-loop-token : goal.decreases-sequence-loop-token
 decreases-sequence-loop-token l = length l.text.bytes.now - l.here.at

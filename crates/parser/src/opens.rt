@@ -1,0 +1,84 @@
+// What is open at a place in a text: a `(`, or a binder by the place of its name.
+ghost use Rattle.std.specs.Prelude.{◌≡◌, ◌<◌, [], ◌∷◌, length};
+ghost use Rattle.calculus.specs.Bounds.{most_open};
+ghost use Rattle.calculus.specs.Walk.{resolved};
+ghost use Rattle.words.specs.Places.{Inside, name_of};
+ghost use Rattle.parser.specs.Opens.{opens, Opened, found};
+
+use crate::tokens::Binder;
+use calculus::MOST_OPEN;
+use std::marker::Model;
+use words::Name;
+use words::text::Text;
+
+// The array is cleared for each text, and the last of the first so many is innermost.
+#[derive(Drop)]
+pub(crate) struct Opens {
+    names: [Option<Binder>; MOST_OPEN],
+    count: usize,
+}
+
+impl Model for Opens {
+    ghost use Rattle.std.specs.Prelude.{List, Option, take, reverse, length, ◌≤◌, ◌≡◌};
+    ghost use Rattle.calculus.specs.Bounds.{most_open};
+    ghost use Rattle.parser.specs.declared.tokens.Binder.{Binder};
+
+    ghost Value = { List (Option Binder) };
+
+    ghost view = { λ o. reverse (take o.count o.names) };
+
+    ghost invariant = { λ o. (o.count ≤ most_open) × (length o.names ≡ most_open) };
+}
+
+impl Opens {
+    // Nothing is open.
+    pub(crate) fn new() -> Opens
+        ensures { result ≡ [] }
+    {
+        Opens {
+            names: [None; MOST_OPEN],
+            count: 0,
+        }
+    }
+
+    pub(crate) fn len(&self) -> usize
+        ensures { result ≡ length self.now }
+    {
+        self.count
+    }
+
+    // One more inside all that is open.
+    pub(crate) fn push(&mut self, opening: Option<Binder>)
+        requires { length self.old < most_open }
+        ensures { self.new ≡ opening ∷ self.old }
+    {
+        self.names[self.count] = opening;
+        self.count += 1;
+    }
+
+    // Without the innermost, which is handed out.
+    pub(crate) fn pop(&mut self) -> Option<Binder>
+        requires { 0 < length self.old }
+        ensures { self.old ≡ result ∷ self.new }
+    {
+        self.count -= 1;
+        self.names[self.count]
+    }
+
+    // The index that a name has among what is open, from the innermost binder out.
+    pub(crate) fn resolve(&self, text: Text, name: Name) -> Option<u64>
+        requires { Inside text.bytes.now name × Opened text.bytes.now self.now }
+        ensures { found result ≡ resolved (name_of text.entry.bytes.now name) 1 (opens text.entry.bytes.now self.now) }
+    {
+        let mut index = 1;
+        for open in self.names[..self.count].iter().rev() {
+            if let Some(binder) = *open {
+                if text.same_name(name, binder.name()) {
+                    return Some(index);
+                }
+                index += 1;
+            }
+        }
+        None
+    }
+}
