@@ -4,7 +4,9 @@
 ghost use Rattle.std.specs.Prelude.{◌≡◌};
 ghost use Rattle.calculus.specs.Orders as calculus;
 ghost use Rattle.calculus.specs.Traits as traits;
-ghost use Rattle.orders.specs.Orders.{order_of};
+ghost use Rattle.orders.specs.Orders.{order_of, Numbered};
+
+use term::Refusal;
 
 #[derive(Clone, Copy, Debug, PartialEq, Eq)]
 pub enum Order {
@@ -15,6 +17,26 @@ pub enum Order {
     APP,
     CBV,
     HAP,
+}
+
+// An order by its number; a number that no order has is refused by 1.
+impl TryFrom<u64> for Order {
+    type Error = Refusal;
+
+    ghost try_from_gives = { Numbered };
+
+    fn try_from(number: u64) -> Result<Self, Refusal> {
+        match number {
+            0 => Ok(Order::NOR),
+            1 => Ok(Order::CBN),
+            2 => Ok(Order::HSP),
+            3 => Ok(Order::HNO),
+            4 => Ok(Order::APP),
+            5 => Ok(Order::CBV),
+            6 => Ok(Order::HAP),
+            _ => Err(Refusal::OutsideBounds),
+        }
+    }
 }
 
 impl Order {

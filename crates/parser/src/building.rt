@@ -5,7 +5,6 @@ ghost use Rattle.parser.specs.Building.{Roomy, Makes, Enclosable, Encloses, Appl
 ghost use Rattle.parser.specs.Building.{Joinable, Joins, Extends, JoinsUnder};
 
 use calculus::MOST_HEIGHT;
-use term::larger;
 
 // A term by its height, and by its node where it may still be within the bounds.
 #[derive(Clone, Copy, Debug, PartialEq, Eq)]
@@ -89,7 +88,7 @@ fn application(store: &mut [u64], cap: usize, used: usize, left: Found, right: F
     requires { Roomy store.old cap used × Applicable store.old cap used left right }
     ensures { Applies store.old cap used left right store.new result }
 {
-    let height = larger(left.height, right.height) + 1;
+    let height = left.height.max(right.height) + 1;
     let part = Part::Term(Found { height, node: used });
     if cap <= used {
         return Built {

@@ -1,13 +1,14 @@
 // Coded terms: what stands at an offset, and whether any bytes are one whole term within the bounds.
 #![tactic(auto)]
 
-ghost use Rattle.std.specs.Prelude.{◌≡◌, not, ◌||◌, ◌+◌, ◌-◌, ◌≤◌, ◌<◌, max, length, take, drop};
+ghost use Rattle.std.specs.Prelude.{◌≡◌, not, ◌||◌, ◌+◌, ◌-◌, ◌≤◌, ◌<◌, length, take, drop};
 ghost use Rattle.calculus.specs.Term.{var};
 ghost use Rattle.calculus.specs.Numbers.{between, from_digits};
 ghost use Rattle.calculus.specs.Bounds.{most_height, greatest_number};
 ghost use Rattle.calculus.specs.Refusal.{refusal_number};
 ghost use Rattle.calculus.specs.Bytes.{decode};
 ghost use Rattle.term.specs.Heads.{head_in};
+ghost use Rattle.term.specs.Notations.{Numbered};
 ghost use Rattle.term.specs.FactsOf.{facts_of};
 ghost use Rattle.term.specs.Surveys.{Scans, Begins, Surveys, facts_under, facts_beside};
 ghost use Rattle.term.specs.Answers.{refusal_of, told, check_of};
@@ -19,6 +20,21 @@ use calculus::MOST_HEIGHT;
 pub enum Notation {
     DeBruijn,
     Classic,
+}
+
+// A notation by its number; a number that no notation has is refused by 1.
+impl TryFrom<u64> for Notation {
+    type Error = Refusal;
+
+    ghost try_from_gives = { Numbered };
+
+    fn try_from(number: u64) -> Result<Self, Refusal> {
+        match number {
+            0 => Ok(Notation::DeBruijn),
+            1 => Ok(Notation::Classic),
+            _ => Err(Refusal::OutsideBounds),
+        }
+    }
 }
 
 // The thirteen refusals of document 01, which all crates share.
@@ -39,24 +55,26 @@ pub enum Refusal {
     OutputTooShort(usize),
 }
 
-// A refusal's number in document 01.
-pub fn refusal_number(why: Refusal) -> u64
-    ensures { result ≡ refusal_number (refusal_of why) }
-{
-    match why {
-        Refusal::OutsideBounds => 1,
-        Refusal::TooLittleRoom => 2,
-        Refusal::TextTooLong => 3,
-        Refusal::OutsideDomain(_) => 4,
-        Refusal::InvalidCharacter { place: _, code: _ } => 5,
-        Refusal::UndefinedFreeVariable => 6,
-        Refusal::TooHigh => 7,
-        Refusal::EmptyExpression => 8,
-        Refusal::TooManyNodes => 9,
-        Refusal::NotATerm(_) => 10,
-        Refusal::NotAbs => 11,
-        Refusal::IndexTooGreat => 12,
-        Refusal::OutputTooShort(_) => 13,
+impl Refusal {
+    // The number of a refusal.
+    pub fn number(self) -> u64
+        ensures { result ≡ refusal_number (refusal_of self) }
+    {
+        match self {
+            Refusal::OutsideBounds => 1,
+            Refusal::TooLittleRoom => 2,
+            Refusal::TextTooLong => 3,
+            Refusal::OutsideDomain(_) => 4,
+            Refusal::InvalidCharacter { place: _, code: _ } => 5,
+            Refusal::UndefinedFreeVariable => 6,
+            Refusal::TooHigh => 7,
+            Refusal::EmptyExpression => 8,
+            Refusal::TooManyNodes => 9,
+            Refusal::NotATerm(_) => 10,
+            Refusal::NotAbs => 11,
+            Refusal::IndexTooGreat => 12,
+            Refusal::OutputTooShort(_) => 13,
+        }
     }
 }
 
@@ -133,12 +151,6 @@ pub struct Facts {
     pub reach: u64,
 }
 
-pub fn larger(a: u64, b: u64) -> u64
-    ensures { result ≡ max a b }
-{
-    a.max(b)
-}
-
 // Whether an index under so many abstractions is 0 or free.
 fn is_free(index: u64, depth: u64) -> bool
     ensures { result ≡ not (between 1 depth index) }
@@ -192,10 +204,10 @@ fn of_application(left: Facts, right: Facts) -> Facts
 {
     Facts {
         nodes: left.nodes + right.nodes + 1,
-        height: larger(left.height, right.height) + 1,
-        depth: larger(left.depth, right.depth),
-        free: either(left.free, right.free),
-        reach: larger(left.reach, right.reach),
+        height: left.height.max(right.height) + 1,
+        depth: left.depth.max(right.depth),
+        free: left.free || right.free,
+        reach: left.reach.max(right.reach),
     }
 }
 

@@ -7,23 +7,23 @@ use Rattle.parser.proofs.building.application.Goals as goal
 
 pub overflow_add-height : goal.overflow_add-height
 overflow_add-height c =
-    omega (arith, c.larger-height.ensures, left-height c.requires.1, right-height c.requires.1, c.requires.0.few)
+    omega (arith, c.max-height.ensures, left-height c.requires.1, right-height c.requires.1, c.requires.0.few)
 
 pub returns-then-cap-used : goal.returns-then-cap-used
 returns-then-cap-used c =
-    applies refl (same_refl _ _) _ _ (rw c.larger-height.ensures) (λ few. absurd (omega (arith, c.if-cap-used.true)))
+    applies refl (same_refl _ _) _ _ (rw c.max-height.ensures) (λ few. absurd (omega (arith, c.if-cap-used.true)))
 
 pub returns-then-height-gt-MOST_HEIGHT : goal.returns-then-height-gt-MOST_HEIGHT
 returns-then-height-gt-MOST_HEIGHT c =
-    applies refl (same_refl _ _) _ _ (rw c.larger-height.ensures)
+    applies refl (same_refl _ _) _ _ (rw c.max-height.ensures)
     (λ few low. absurd (omega (arith, c.if-height-gt-MOST_HEIGHT.true)))
 
 pub make_application-requires : goal.make_application-requires
 make_application-requires c =
     can-apply c.requires.0 c.if-cap-used.false _ _ c.requires.1
-    (omega (arith, c.larger-height.ensures, c.if-height-gt-MOST_HEIGHT.false))
+    (omega (arith, c.max-height.ensures, c.if-height-gt-MOST_HEIGHT.false))
 
 pub returns : goal.returns
 returns c =
     applies c.make_application.ensures.0 c.make_application.ensures.1 _
-    _ (rw c.larger-height.ensures) (λ few low. c.make_application.ensures.2)
+    _ (rw c.max-height.ensures) (λ few low. c.make_application.ensures.2)
