@@ -4,19 +4,9 @@ use mathlib.Core.Path.{◌≡◌, refl, sym, ap, ◌∙◌}
 use mathlib.Core.Bool.{Bool, true, false, cond}
 use mathlib.Core.List.{List}
 use mir.Val.{bool_byte}
-use Rattle.calculus.specs.Refusal.{refusal_number}
 use Rattle.calculus.specs.Outcomes.{Outcome}
-use Rattle.term.specs.Answers.{refusal_of}
-use Rattle.term.specs.declared.Refusal.{Refusal}
-use Rattle.copperjangle.specs.Answers.{details, refused_in_numbers, told_by}
+use Rattle.copperjangle.specs.Answers.{told_by}
 use Rattle.copperjangle.specs.declared.Answer.{Answer}
-
--- a refusal by its number and by the details of the case that it is
-pub refusal-told : {why case : Refusal} {n k : ℕ} → n ≡ refusal_number (refusal_of why) → why ≡ case
-    → let d = details (refusal_of case) in
-    ◌≡◌ {A = Answer} (record { refusal = n; finished = 0; value = d.0; steps = k; place = d.1; code = d.2 })
-    (refused_in_numbers k (refusal_of why))
-refusal-told says e = rw (says, e)
 
 -- a bool as the code casts it
 pub truth_cast : (b : Bool) → bool_byte b ≡ cond b 1 0

@@ -4,20 +4,15 @@
 
 mod telling;
 
-ghost use Rattle.std.specs.Prelude.{◌<◌, ◌≡◌};
-ghost use Rattle.std.proofs.Math.Option.{some};
+ghost use Rattle.std.specs.Prelude.{◌≡◌};
 ghost use Rattle.calculus.specs.Outcomes.{nodes_of, height_of, max_depth_of, max_free_index_of};
 ghost use Rattle.calculus.specs.Outcomes.{has_free_variables_of, is_supercombinator_of, equality_of};
 ghost use Rattle.calculus.specs.Outcomes.{apply_of, eta_of};
-ghost use Rattle.term.specs.Notations.{notation_of};
-ghost use Rattle.orders.specs.Orders.{order_of};
-ghost use Rattle.copperjangle.specs.Numbers.{numbered, notations, orders};
 ghost use Rattle.copperjangle.specs.Answers.{number_in_numbers, truth_in_numbers, run_in_numbers, told_by};
 ghost use Rattle.copperjangle.specs.Exports.{parse_numbered, print_numbered, reduce_numbered};
 
 use orders::Order;
-use telling::{given, number_told, refused, run_told, truth_told};
-use term::{Notation, Refusal};
+use term::Notation;
 
 // An answer in numbers. What a field is not said to hold, it holds 0.
 #[repr(C)]
@@ -37,87 +32,54 @@ pub struct Answer {
     pub code: u64,
 }
 
-const NOTATIONS: u64 = 2;
-
-const ORDERS: u64 = 7;
-
-fn notation_numbered(number: u64) -> Notation
-    requires { number < 2 }
-    ensures { numbered notations number ≡ some (notation_of result) }
-{
-    if number == 0 {
-        Notation::DeBruijn
-    } else {
-        Notation::Classic
-    }
-}
-
-fn order_numbered(number: u64) -> Order
-    requires { number < 7 }
-    ensures { numbered orders number ≡ some (order_of result) }
-{
-    match number {
-        0 => Order::NOR,
-        1 => Order::CBN,
-        2 => Order::HSP,
-        3 => Order::HNO,
-        4 => Order::APP,
-        5 => Order::CBV,
-        _ => Order::HAP,
-    }
-}
-
 pub fn copperjangle_nodes(term: &[u8]) -> Answer
     ensures { result ≡ number_in_numbers (nodes_of term.now) }
 {
-    number_told(queries::nodes(term))
+    Answer::from(queries::nodes(term))
 }
 
 pub fn copperjangle_height(term: &[u8]) -> Answer
     ensures { result ≡ number_in_numbers (height_of term.now) }
 {
-    number_told(queries::height(term))
+    Answer::from(queries::height(term))
 }
 
 pub fn copperjangle_max_depth(term: &[u8]) -> Answer
     ensures { result ≡ number_in_numbers (max_depth_of term.now) }
 {
-    number_told(queries::max_depth(term))
+    Answer::from(queries::max_depth(term))
 }
 
 pub fn copperjangle_max_free_index(term: &[u8]) -> Answer
     ensures { result ≡ number_in_numbers (max_free_index_of term.now) }
 {
-    number_told(queries::max_free_index(term))
+    Answer::from(queries::max_free_index(term))
 }
 
 pub fn copperjangle_has_free_variables(term: &[u8]) -> Answer
     ensures { result ≡ truth_in_numbers (has_free_variables_of term.now) }
 {
-    truth_told(queries::has_free_variables(term))
+    Answer::from(queries::has_free_variables(term))
 }
 
 pub fn copperjangle_is_supercombinator(term: &[u8]) -> Answer
     ensures { result ≡ truth_in_numbers (is_supercombinator_of term.now) }
 {
-    truth_told(queries::is_supercombinator(term))
+    Answer::from(queries::is_supercombinator(term))
 }
 
 pub fn copperjangle_equality(first: &[u8], second: &[u8]) -> Answer
     ensures { result ≡ truth_in_numbers (equality_of first.now second.now) }
 {
-    truth_told(queries::equality(first, second))
+    Answer::from(queries::equality(first, second))
 }
 
 pub fn copperjangle_print(notation: u64, term: &[u8], out: &mut [u8]) -> Answer
     ensures { (result, out.new) ≡ print_numbered notation term.now out.old }
 {
-    if NOTATIONS <= notation {
-        return refused(0, Refusal::OutsideBounds);
-    }
-    match printer::print(notation_numbered(notation), term, out) {
-        printer::Printed::Length(length) => given(length as u64),
-        printer::Printed::Refused(why) => refused(0, why),
+    match Notation::try_from(notation) {
+        Ok(notation) => Answer::from(printer::print(notation, term, out)),
+        Err(why) => Answer::from(why),
     }
 }
 
@@ -131,12 +93,9 @@ pub fn copperjangle_parse(
     ensures { (result, out.new, room.new)
         ≡ parse_numbered notation cap text.now out.old room.old }
 {
-    if NOTATIONS <= notation {
-        return refused(0, Refusal::OutsideBounds);
-    }
-    match parser::parse(notation_numbered(notation), cap, text, out, room) {
-        Ok(length) => given(length as u64),
-        Err(why) => refused(0, why),
+    match Notation::try_from(notation) {
+        Ok(notation) => Answer::from(parser::parse(notation, cap, text, out, room)),
+        Err(why) => Answer::from(why),
     }
 }
 
@@ -151,10 +110,7 @@ pub fn copperjangle_apply(
         ≡ told_by number_in_numbers (apply_of cap abstraction.now argument.now
         out.old room.old) }
 {
-    match reduction::apply(cap, abstraction, argument, out, room) {
-        Ok(length) => given(length as u64),
-        Err(why) => refused(0, why),
-    }
+    Answer::from(reduction::apply(cap, abstraction, argument, out, room))
 }
 
 pub fn copperjangle_eta(
@@ -167,7 +123,7 @@ pub fn copperjangle_eta(
     ensures { (result, out.new, room.new)
         ≡ told_by run_in_numbers (eta_of limit cap term.now out.old room.old) }
 {
-    run_told(eta::eta(limit, cap, term, out, room))
+    Answer::from(eta::eta(limit, cap, term, out, room))
 }
 
 pub fn copperjangle_reduce(
@@ -181,8 +137,8 @@ pub fn copperjangle_reduce(
     ensures { (result, out.new, room.new)
         ≡ reduce_numbered order limit cap term.now out.old room.old }
 {
-    if ORDERS <= order {
-        return refused(0, Refusal::OutsideBounds);
+    match Order::try_from(order) {
+        Ok(order) => Answer::from(reduction::reducing::reduce(order, limit, cap, term, out, room)),
+        Err(why) => Answer::from(why),
     }
-    run_told(reduction::reducing::reduce(order_numbered(order), limit, cap, term, out, room))
 }

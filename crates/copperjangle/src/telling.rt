@@ -1,106 +1,133 @@
 // Answers of the entry points, told in numbers.
 ghost use Rattle.std.specs.Prelude.{◌≡◌};
-ghost use Rattle.term.specs.Answers.{refusal_of};
+ghost use Rattle.term.specs.Answers.{refusal_of, told};
 ghost use Rattle.nodes.specs.Answers.{run_told};
-ghost use Rattle.queries.specs.Answers.{number_told, truth_told};
 ghost use Rattle.copperjangle.specs.Answers.{reached_in_numbers, refused_in_numbers};
 ghost use Rattle.copperjangle.specs.Answers.{number_in_numbers, truth_in_numbers, run_in_numbers};
 
 use crate::Answer;
 use nodes::runs::{End, Run, Stopped};
-use queries::{Number, Truth};
-use term::{Refusal, refusal_number};
+use term::Refusal;
 
-// What a run reached after so many steps.
-fn reached(finished: u64, steps: u64, value: u64) -> Answer
-    ensures { result ≡ reached_in_numbers finished steps value }
-{
-    Answer {
-        refusal: 0,
-        finished,
-        value,
-        steps,
-        place: 0,
-        code: 0,
+impl Answer {
+    // What a run reached after so many steps; of no run, 0 and 0.
+    fn reached(finished: u64, steps: u64, value: u64) -> Answer
+        ensures { result ≡ reached_in_numbers finished steps value }
+    {
+        Answer {
+            refusal: 0,
+            finished,
+            value,
+            steps,
+            place: 0,
+            code: 0,
+        }
+    }
+
+    // What was given, and nothing else.
+    pub(crate) fn given(value: u64) -> Answer
+        ensures { result ≡ reached_in_numbers 0 0 value }
+    {
+        Answer::reached(0, 0, value)
+    }
+
+    // A refusal after so many steps, with what it returns.
+    pub(crate) fn refused(steps: u64, why: Refusal) -> Answer
+        ensures { result ≡ refused_in_numbers steps (refusal_of why) }
+    {
+        let plain = Answer {
+            refusal: why.number(),
+            finished: 0,
+            value: 0,
+            steps,
+            place: 0,
+            code: 0,
+        };
+        match why {
+            Refusal::OutsideBounds => plain,
+            Refusal::TooLittleRoom => plain,
+            Refusal::TextTooLong => plain,
+            Refusal::OutsideDomain(offset) => Answer {
+                place: offset as u64,
+                ..plain
+            },
+            Refusal::InvalidCharacter { place, code } => Answer {
+                place: place as u64,
+                code,
+                ..plain
+            },
+            Refusal::UndefinedFreeVariable => plain,
+            Refusal::TooHigh => plain,
+            Refusal::EmptyExpression => plain,
+            Refusal::TooManyNodes => plain,
+            Refusal::NotATerm(offset) => Answer {
+                place: offset as u64,
+                ..plain
+            },
+            Refusal::NotAbs => plain,
+            Refusal::IndexTooGreat => plain,
+            Refusal::OutputTooShort(needed) => Answer {
+                value: needed as u64,
+                ..plain
+            },
+        }
     }
 }
 
-// What was given, and nothing else.
-pub(crate) fn given(value: u64) -> Answer
-    ensures { result ≡ reached_in_numbers 0 0 value }
-{
-    reached(0, 0, value)
-}
+// A refusal before any step.
+impl From<Refusal> for Answer {
+    ghost from_gives = { λ why answer. answer ≡ refused_in_numbers 0 (refusal_of why) };
 
-// A refusal after so many steps, with what it returns.
-pub(crate) fn refused(steps: u64, why: Refusal) -> Answer
-    ensures { result ≡ refused_in_numbers steps (refusal_of why) }
-{
-    let plain = Answer {
-        refusal: refusal_number(why),
-        finished: 0,
-        value: 0,
-        steps,
-        place: 0,
-        code: 0,
-    };
-    match why {
-        Refusal::OutsideBounds => plain,
-        Refusal::TooLittleRoom => plain,
-        Refusal::TextTooLong => plain,
-        Refusal::OutsideDomain(offset) => Answer {
-            place: offset as u64,
-            ..plain
-        },
-        Refusal::InvalidCharacter { place, code } => Answer {
-            place: place as u64,
-            code,
-            ..plain
-        },
-        Refusal::UndefinedFreeVariable => plain,
-        Refusal::TooHigh => plain,
-        Refusal::EmptyExpression => plain,
-        Refusal::TooManyNodes => plain,
-        Refusal::NotATerm(offset) => Answer {
-            place: offset as u64,
-            ..plain
-        },
-        Refusal::NotAbs => plain,
-        Refusal::IndexTooGreat => plain,
-        Refusal::OutputTooShort(needed) => Answer {
-            value: needed as u64,
-            ..plain
-        },
+    fn from(why: Refusal) -> Answer {
+        Answer::refused(0, why)
     }
 }
 
-pub(crate) fn number_told(answer: Number) -> Answer
-    ensures { result ≡ number_in_numbers (number_told answer) }
-{
-    match answer {
-        Number::Given(value) => given(value),
-        Number::Refused(why) => refused(0, why),
+impl From<Result<u64, Refusal>> for Answer {
+    ghost from_gives = { λ asked answer. answer ≡ number_in_numbers (told asked) };
+
+    fn from(asked: Result<u64, Refusal>) -> Answer {
+        match asked {
+            Ok(value) => Answer::given(value),
+            Err(why) => Answer::from(why),
+        }
     }
 }
 
-pub(crate) fn truth_told(answer: Truth) -> Answer
-    ensures { result ≡ truth_in_numbers (truth_told answer) }
-{
-    match answer {
-        Truth::Given(truth) => given(truth as u64),
-        Truth::Refused(why) => refused(0, why),
+// A length in the output.
+impl From<Result<usize, Refusal>> for Answer {
+    ghost from_gives = { λ asked answer. answer ≡ number_in_numbers (told asked) };
+
+    fn from(asked: Result<usize, Refusal>) -> Answer {
+        match asked {
+            Ok(length) => Answer::given(length as u64),
+            Err(why) => Answer::from(why),
+        }
+    }
+}
+
+impl From<Result<bool, Refusal>> for Answer {
+    ghost from_gives = { λ asked answer. answer ≡ truth_in_numbers (told asked) };
+
+    fn from(asked: Result<bool, Refusal>) -> Answer {
+        match asked {
+            Ok(truth) => Answer::given(u64::from(truth)),
+            Err(why) => Answer::from(why),
+        }
     }
 }
 
 // How a run of reduce or eta ended.
-pub(crate) fn run_told(run: Result<Run, Stopped>) -> Answer
-    ensures { result ≡ run_in_numbers (run_told run) }
-{
-    match run {
-        Ok(run) => match run.end {
-            End::Finished => reached(1, run.steps, run.length as u64),
-            End::Unfinished => reached(0, run.steps, run.length as u64),
-        },
-        Err(stopped) => refused(stopped.steps, stopped.why),
+impl From<Result<Run, Stopped>> for Answer {
+    ghost from_gives = { λ ended answer. answer ≡ run_in_numbers (run_told ended) };
+
+    fn from(ended: Result<Run, Stopped>) -> Answer {
+        match ended {
+            Ok(run) => match run.end {
+                End::Finished => Answer::reached(1, run.steps, run.length as u64),
+                End::Unfinished => Answer::reached(0, run.steps, run.length as u64),
+            },
+            Err(stopped) => Answer::refused(stopped.steps, stopped.why),
+        }
     }
 }

@@ -16,10 +16,9 @@ use Rattle.calculus.specs.Outcomes.{checked, laid_over, print_of}
 use Rattle.calculus.proofs.Judged.{checked-given, checked_more}
 use Rattle.calculus.proofs.Putting.{Puts}
 use Rattle.calculus.proofs.Shown.{text-length}
+use Rattle.std.specs.Prelude.{Result, Ok, Err}
+use Rattle.term.specs.Answers.{told}
 use Rattle.term.specs.declared.Refusal.{Refusal}
-use Rattle.printer.specs.Answers.{printed_told}
-use Rattle.printer.specs.declared.Printed.{Printed}
-use Rattle.printer.specs.declared.Printed.TheVariants.{Length, Refused}
 use Rattle.marking.specs.Working.{most_term, Printable}
 
 pub text-short : (n : Notation) (s : List ℕ) {t : Term} → checked program_cap s ≡ given t
@@ -62,27 +61,25 @@ module _ (n : Notation) {s out : List ℕ} {to : ℕ} (asks : Printable s to out
       let fits : length text ≤ length (part out to) = omega (arith, part_length out to, asks.room) in
       rw (checked_more {cap' = most_nodes} s (omega arith) passes, le-leb (length text) (length (part out to)) fits)
 
-  module _ {r : Printed} {after : List ℕ} (says : (printed_told r, after) ≡ print_of n s (part out to)) where
-    told : {k : ℕ} → r ≡ Length k → {t : Term} → checked program_cap s ≡ given t
+  module _ {r : Result ℕ Refusal} {after : List ℕ} (says : (told r, after) ≡ print_of n s (part out to)) where
+    printed_so : {k : ℕ} → r ≡ Ok k → {t : Term} → checked program_cap s ≡ given t
         → (k ≡ length (write_text n t)) × (after ≡ laid_over (write_text n t) (part out to))
-    unfolding printed_told
-    told is passes = let same = rw is at says ∙ printed passes in (cc (ap (λ x. x.0) same), ap (λ x. x.1) same)
+    printed_so is passes = let same = rw is at says ∙ printed passes in (cc (ap (λ x. x.0) same), ap (λ x. x.1) same)
 
-    pub inside : {k : ℕ} → r ≡ Length k → to + k ≤ length out
-    inside is = omega (arith, (told is asks.passes).0, text-short n s asks.passes, asks.room)
+    pub inside : {k : ℕ} → r ≡ Ok k → to + k ≤ length out
+    inside is = omega (arith, (printed_so is asks.passes).0, text-short n s asks.passes, asks.room)
 
-    pub text-put : {k : ℕ} → r ≡ Length k → (t : Term) → checked program_cap s ≡ given t
+    pub text-put : {k : ℕ} → r ≡ Ok k → (t : Term) → checked program_cap s ≡ given t
         → Puts out to (write_text n t) (to + k) (put_back out to after)
     text-put is t passes =
-        let (long, stands) = told is passes in
+        let (long, stands) = printed_so is passes in
         record {
           reached = ap (λ k. to + k) long;
           stored = rw stands (laid_in_part out to (write_text n t) (omega (arith, inside is)));
         }
 
     -- there is room for it
-    pub not-refused : {why : Refusal} → r ≡ Refused why → ⊥
-    unfolding printed_told
+    pub not-refused : {why : Refusal} → r ≡ Err why → ⊥
     not-refused is =
         let same = ap (λ x. x.0) (rw is at says ∙ printed asks.passes) in
         let never : ◌≡◌ {A = ℕ} 0 1 = cc in

@@ -8,9 +8,8 @@ ghost use Rattle.term.specs.Answers.{refusal_of};
 ghost use Rattle.term.specs.Notations.{notation_of};
 ghost use Rattle.marking.specs.Working.{most_word, Printable, Prints};
 
-use printer::Printed;
 use printer::putting::{put, put_all};
-use term::{Notation, Refusal, refusal_number};
+use term::{Notation, Refusal};
 
 // The most digits of a number that is written.
 const DIGITS: u64 = 7;
@@ -44,7 +43,7 @@ pub(crate) fn put_line(out: &mut [u8], word: &[u8], number: u64) -> usize
 pub(crate) fn put_refusal(out: &mut [u8], why: Refusal) -> usize
     ensures { Puts out.old 0 (refused_line (refusal_of why)) result out.new }
 {
-    put_line(out, b"refused", refusal_number(why))
+    put_line(out, b"refused", why.number())
 }
 
 // The text of a term within the program's cap, for which there is room from a place on.
@@ -53,8 +52,8 @@ pub(crate) fn put_term(out: &mut [u8], to: usize, notation: Notation, s: &[u8]) 
     ensures { Prints (notation_of notation) s.now out.old to result out.new }
 {
     match printer::print(notation, s, &mut out[to..]) {
-        Printed::Length(length) => to + length,
+        Ok(length) => to + length,
         // not met: the term is within the bounds, and its text fits
-        Printed::Refused(_) => to,
+        Err(_) => to,
     }
 }

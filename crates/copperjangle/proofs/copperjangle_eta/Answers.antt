@@ -4,4 +4,4 @@ use Rattle.copperjangle.proofs.InNumbers.{outcome-told}
 use Rattle.copperjangle.proofs.copperjangle_eta.Goals as goal
 
 pub returns : goal.returns
-returns c = outcome-told run_in_numbers c.run_told.ensures c.eta.ensures
+returns c = outcome-told run_in_numbers c.from.ensures c.eta.ensures

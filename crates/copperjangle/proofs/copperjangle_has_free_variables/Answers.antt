@@ -4,4 +4,4 @@ use Rattle.copperjangle.specs.Answers.{truth_in_numbers}
 use Rattle.copperjangle.proofs.copperjangle_has_free_variables.Goals as goal
 
 pub returns : goal.returns
-returns c = c.truth_told.ensures ∙ ap truth_in_numbers c.has_free_variables.ensures
+returns c = c.from.ensures ∙ ap truth_in_numbers c.has_free_variables.ensures

@@ -4,4 +4,4 @@ use Rattle.copperjangle.specs.Answers.{truth_in_numbers}
 use Rattle.copperjangle.proofs.copperjangle_is_supercombinator.Goals as goal
 
 pub returns : goal.returns
-returns c = c.truth_told.ensures ∙ ap truth_in_numbers c.is_supercombinator.ensures
+returns c = c.from.ensures ∙ ap truth_in_numbers c.is_supercombinator.ensures

@@ -4,4 +4,4 @@ use Rattle.copperjangle.specs.Answers.{number_in_numbers}
 use Rattle.copperjangle.proofs.copperjangle_nodes.Goals as goal
 
 pub returns : goal.returns
-returns c = c.number_told.ensures ∙ ap number_in_numbers c.nodes.ensures
+returns c = c.from.ensures ∙ ap number_in_numbers c.nodes.ensures

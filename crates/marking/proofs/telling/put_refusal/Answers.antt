@@ -6,4 +6,4 @@ use Rattle.marking.proofs.telling.put_refusal.Goals as goal
 pub returns : goal.returns
 unfolding codes numeral
 returns c =
-    rw c.refusal_number.ensures at c.put_line.ensures
+    rw c.number.ensures at c.put_line.ensures

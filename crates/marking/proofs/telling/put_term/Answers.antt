@@ -5,13 +5,13 @@ use Rattle.marking.proofs.telling.put_term.Goals as goal
 
 pub overflow_add-result : goal.overflow_add-result
 overflow_add-result c =
-    let fits = inside _ c.requires c.print.ensures c.in-Length.is in
+    let fits = inside _ c.requires c.print.ensures c.in-Ok.is in
     omega arith
 
-pub returns-in-Length : goal.returns-in-Length
-returns-in-Length c =
-    text-put _ c.requires c.print.ensures c.in-Length.is
+pub returns-in-Ok : goal.returns-in-Ok
+returns-in-Ok c =
+    text-put _ c.requires c.print.ensures c.in-Ok.is
 
-pub returns-in-Refused : goal.returns-in-Refused
-returns-in-Refused c =
-    absurd (not-refused _ c.requires c.print.ensures c.in-Refused.is)
+pub returns-in-Err : goal.returns-in-Err
+returns-in-Err c =
+    absurd (not-refused _ c.requires c.print.ensures c.in-Err.is)
