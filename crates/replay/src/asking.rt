@@ -1,114 +1,137 @@
 // What a line asks for, and the call.
-ghost use Rattle.std.specs.Prelude.{◌≤◌};
-
-use crate::lines;
+use crate::lines::{cut, decimal, which};
+use crate::terms::Inputs;
 use copperjangle::Answer;
+use std::ops::RangeInclusive;
+use std::str;
 
-// Some of the entry points, by their place among the names.
-pub(crate) const PARSE: usize = 0;
-
-pub(crate) const PRINT: usize = 1;
-
-// The last of those that write into an output.
-pub(crate) const REDUCE: usize = 4;
-
-pub(crate) const KINDS: usize = 12;
-
-fn kind_of(word: &[u8]) -> usize {
-    lines::which(
-        b"parse print apply eta reduce equality \
-          nodes height max_depth max_free_index has_free_variables is_supercombinator",
-        word,
-    )
+// The entry points.
+#[derive(Clone, Copy, Debug, PartialEq, Eq)]
+pub(crate) enum Call {
+    Parse,
+    Print,
+    Apply,
+    Eta,
+    Reduce,
+    Equality,
+    Nodes,
+    Height,
+    MaxDepth,
+    MaxFreeIndex,
+    HasFreeVariables,
+    IsSupercombinator,
 }
 
-// What is asked for by ALL: each order in turn.
-const ALL_ORDERS: u64 = 99;
-
-// The place of a notation or an order among their names. One that is none is asked for by a number that is none.
-fn name_of(kind: usize, word: &[u8]) -> u64 {
-    if word == b"ALL".as_slice() {
-        return ALL_ORDERS;
+impl Call {
+    fn named(word: &[u8]) -> Option<Call> {
+        match str::from_utf8(word).ok()? {
+            "parse" => Some(Call::Parse),
+            "print" => Some(Call::Print),
+            "apply" => Some(Call::Apply),
+            "eta" => Some(Call::Eta),
+            "reduce" => Some(Call::Reduce),
+            "equality" => Some(Call::Equality),
+            "nodes" => Some(Call::Nodes),
+            "height" => Some(Call::Height),
+            "max_depth" => Some(Call::MaxDepth),
+            "max_free_index" => Some(Call::MaxFreeIndex),
+            "has_free_variables" => Some(Call::HasFreeVariables),
+            "is_supercombinator" => Some(Call::IsSupercombinator),
+            _ => None,
+        }
     }
-    if kind == REDUCE {
-        return lines::which(b"NOR CBN HSP HNO APP CBV HAP", word) as u64;
+
+    // Whether it needs room to work in.
+    pub(crate) fn works(self) -> bool {
+        matches!(self, Call::Parse | Call::Apply | Call::Eta | Call::Reduce)
     }
-    lines::which(b"dbr cla", word) as u64
+
+    // Whether it writes into an output.
+    pub(crate) fn writes(self) -> bool {
+        self.works() || self == Call::Print
+    }
 }
 
-// The first of the orders that a name stands for, and the one behind the last.
-pub(crate) fn first_named(name: u64) -> u64 {
-    if name == ALL_ORDERS { 0 } else { name }
+// The numbers of the notations or orders that are asked for.
+#[derive(Clone, Copy, Debug, PartialEq, Eq)]
+pub(crate) enum Orders {
+    One(u64),
+    All,
 }
 
-pub(crate) fn behind_named(name: u64) -> u64 {
-    if name < ALL_ORDERS { name + 1 } else { 7 }
+impl Orders {
+    // One that is none is asked for by a number that is none.
+    fn named(call: Call, word: &[u8]) -> Orders {
+        if word == b"ALL".as_slice() {
+            return Orders::All;
+        }
+        let names = match call {
+            Call::Reduce => b"NOR CBN HSP HNO APP CBV HAP".as_slice(),
+            _ => b"dbr cla".as_slice(),
+        };
+        Orders::One(which(names, word).unwrap_or(names.len()) as u64)
+    }
+
+    pub(crate) fn numbers(self) -> RangeInclusive<u64> {
+        match self {
+            Orders::One(number) => number..=number,
+            Orders::All => 0..=6,
+        }
+    }
 }
 
-// The first input is between two places of the line, and a second one begins at another.
 #[derive(Clone, Copy)]
-pub(crate) struct Asked {
-    pub(crate) kind: usize,
-    pub(crate) name: u64,
+pub(crate) struct Asked<'a> {
+    pub(crate) call: Call,
+    pub(crate) orders: Orders,
     pub(crate) limit: u64,
-    pub(crate) from: usize,
-    pub(crate) end: usize,
-    pub(crate) next: usize,
+    // the rest of the line, from the first input on
+    pub(crate) inputs: &'a [u8],
 }
 
-// How many words stand between that of the entry point and the inputs; the last of them may be a limit.
-fn words_before(kind: usize) -> usize
-    ensures { result ≤ 2 }
-{
-    match kind {
-        0 | 1 | 3 => 1,
-        4 => 2,
-        _ => 0,
-    }
+// Between the word of the entry point and the inputs there may stand a name and a limit.
+pub(crate) fn read(line: &[u8]) -> Option<Asked<'_>> {
+    let (word, after) = cut(line, b' ');
+    let call = Call::named(word)?;
+    let (name, after_name) = cut(after, b' ');
+    let (limit, after_limit) = match call {
+        Call::Eta => (name, after_name),
+        _ => cut(after_name, b' '),
+    };
+    let inputs = match call {
+        Call::Parse | Call::Print => after_name,
+        Call::Eta | Call::Reduce => after_limit,
+        _ => after,
+    };
+    Some(Asked {
+        call,
+        orders: Orders::named(call, name),
+        limit: decimal(limit),
+        inputs,
+    })
 }
 
-pub(crate) fn read(line: &[u8]) -> Asked {
-    let kind = kind_of(lines::word(line, 0));
-    let words = words_before(kind);
-    let from = lines::place(line, words + 1);
-    let end = lines::word_end(line, from, b' ');
-    Asked {
-        kind,
-        name: name_of(kind, lines::word(line, 1)),
-        limit: lines::decimal(lines::word(line, words)),
-        from,
-        end,
-        next: lines::past(line, end),
-    }
-}
-
-fn query(kind: usize, s: &[u8]) -> Answer {
-    match kind {
-        6 => copperjangle::copperjangle_nodes(s),
-        7 => copperjangle::copperjangle_height(s),
-        8 => copperjangle::copperjangle_max_depth(s),
-        9 => copperjangle::copperjangle_max_free_index(s),
-        10 => copperjangle::copperjangle_has_free_variables(s),
-        _ => copperjangle::copperjangle_is_supercombinator(s),
-    }
-}
-
-pub(crate) fn call(
+pub(crate) fn answer(
     asked: Asked,
+    name: u64,
     cap: u64,
-    s: &[u8],
-    u: &[u8],
+    inputs: Inputs,
     out: &mut [u8],
     room: &mut [u64],
 ) -> Answer {
-    let kind = asked.kind;
-    match kind {
-        0 => copperjangle::copperjangle_parse(asked.name, cap, s, out, room),
-        1 => copperjangle::copperjangle_print(asked.name, s, out),
-        2 => copperjangle::copperjangle_apply(cap, s, u, out, room),
-        3 => copperjangle::copperjangle_eta(asked.limit, cap, s, out, room),
-        4 => copperjangle::copperjangle_reduce(asked.name, asked.limit, cap, s, out, room),
-        5 => copperjangle::copperjangle_equality(s, u),
-        _ => query(kind, s),
+    let s = inputs.first;
+    match asked.call {
+        Call::Parse => copperjangle::copperjangle_parse(name, cap, s, out, room),
+        Call::Print => copperjangle::copperjangle_print(name, s, out),
+        Call::Apply => copperjangle::copperjangle_apply(cap, s, inputs.second, out, room),
+        Call::Eta => copperjangle::copperjangle_eta(asked.limit, cap, s, out, room),
+        Call::Reduce => copperjangle::copperjangle_reduce(name, asked.limit, cap, s, out, room),
+        Call::Equality => copperjangle::copperjangle_equality(s, inputs.second),
+        Call::Nodes => copperjangle::copperjangle_nodes(s),
+        Call::Height => copperjangle::copperjangle_height(s),
+        Call::MaxDepth => copperjangle::copperjangle_max_depth(s),
+        Call::MaxFreeIndex => copperjangle::copperjangle_max_free_index(s),
+        Call::HasFreeVariables => copperjangle::copperjangle_has_free_variables(s),
+        Call::IsSupercombinator => copperjangle::copperjangle_is_supercombinator(s),
     }
 }

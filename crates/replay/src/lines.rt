@@ -1,8 +1,11 @@
 // The words of a line, the numbers that they say, and bytes put into a buffer.
-use calculus::GREATEST_NUMBER;
+ghost use Rattle.std.specs.Prelude.{◌≤◌, length};
 
 // Writes a byte and moves on; at the end of the buffer it does neither.
-pub(crate) fn put(buf: &mut [u8], at: usize, b: u8) -> usize {
+pub(crate) fn put(buf: &mut [u8], at: usize, b: u8) -> usize
+    requires { at ≤ length buf.old }
+    ensures { result ≤ length buf.new }
+{
     if at < buf.len() {
         buf[at] = b;
         at + 1
@@ -11,103 +14,48 @@ pub(crate) fn put(buf: &mut [u8], at: usize, b: u8) -> usize {
     }
 }
 
-// The bytes of a buffer between two places, or none where there are no such places.
-pub(crate) fn part(buf: &[u8], from: usize, to: usize) -> &[u8] {
-    if buf.len() < to {
-        return &buf[..0];
+// What stands before a mark, or all where there is none, and what follows it.
+pub(crate) fn cut(line: &[u8], mark: u8) -> (&[u8], &[u8])
+    ensures { length result.1.now ≤ length line.now }
+{
+    match line.iter().position(|&b| b == mark) {
+        Some(at) => (&line[..at], &line[at + 1..]),
+        None => (line, &[]),
     }
-    if to < from {
-        return &buf[..0];
-    }
-    &buf[from..to]
 }
 
-// Where the word that begins at a place ends: at a mark, or with the bytes.
-pub(crate) fn word_end(words: &[u8], from: usize, mark: u8) -> usize {
-    for at in from..words.len() {
-        if words[at] == mark {
-            return at;
+// Which of the names, themselves a line's words, a word is, from 0 on.
+pub(crate) fn which(names: &[u8], word: &[u8]) -> Option<usize> {
+    names.split(|&b| b == b' ').position(|name| name == word)
+}
+
+// A digit's value, up to f.
+pub(crate) fn digit(b: u8) -> Option<u64> {
+    match b {
+        b'0'..=b'9' => Some(u64::from(b - b'0')),
+        b'a'..=b'f' => Some(u64::from(b - b'a') + 10),
+        _ => None,
+    }
+}
+
+// The number that digits of a base say, if they say a 64-bit number.
+fn number(digits: &[u8], base: u64) -> Option<u64> {
+    let mut value: u64 = 0;
+    for &b in digits {
+        let last = digit(b)?;
+        if base <= last {
+            return None;
         }
+        value = value.checked_mul(base)?.checked_add(last)?;
     }
-    from.max(words.len())
+    Some(value)
 }
 
-// The place behind the mark that ends a word, or the end of the bytes.
-pub(crate) fn past(words: &[u8], end: usize) -> usize {
-    if end < words.len() { end + 1 } else { end }
-}
-
-// The place behind so many spaces, or the line's end.
-pub(crate) fn place(line: &[u8], spaces: usize) -> usize {
-    let mut at: usize = 0;
-    for _ in 0..spaces {
-        at = past(line, word_end(line, at, b' '));
-    }
-    at
-}
-
-// The word behind so many spaces, or none.
-pub(crate) fn word(line: &[u8], spaces: usize) -> &[u8] {
-    let from = place(line, spaces);
-    part(line, from, word_end(line, from, b' '))
-}
-
-// Which of the names, themselves a line's words, a word is, from 0 on; for any other a number that no name has.
-pub(crate) fn which(names: &[u8], name: &[u8]) -> usize {
-    for number in 0..names.len() {
-        if word(names, number) == name {
-            return number;
-        }
-    }
-    names.len()
-}
-
-// A hex digit's value; 16 for any other byte.
-pub(crate) fn digit(b: u8) -> u64 {
-    if b < b'0' {
-        return 16;
-    }
-    if b <= b'9' {
-        return (b - b'0') as u64;
-    }
-    if b < b'a' {
-        return 16;
-    }
-    if b <= b'f' {
-        (b - b'a' + 10) as u64
-    } else {
-        16
-    }
-}
-
-// The number that a word's digits say; 0 for a word that says no 64-bit number.
+// A word that says no such number is taken for 0.
 pub(crate) fn decimal(digits: &[u8]) -> u64 {
-    let mut value: u64 = 0;
-    for &b in digits {
-        let last = digit(b);
-        if 9 < last {
-            return 0;
-        }
-        if (GREATEST_NUMBER - last) / 10 < value {
-            return 0;
-        }
-        value = value * 10 + last;
-    }
-    value
+    number(digits, 10).unwrap_or(0)
 }
 
-// The same of hex digits.
 pub(crate) fn hex(digits: &[u8]) -> u64 {
-    let mut value: u64 = 0;
-    for &b in digits {
-        let last = digit(b);
-        if 15 < last {
-            return 0;
-        }
-        if (GREATEST_NUMBER - last) / 16 < value {
-            return 0;
-        }
-        value = value * 16 + last;
-    }
-    value
+    number(digits, 16).unwrap_or(0)
 }

@@ -1,8 +1,6 @@
 // Asks the functions of copperjangle what each line of standard input says, and writes the answers to standard output.
 #![tactic(auto)]
 
-ghost use Rattle.std.specs.Io.{ReadsAtMost};
-
 mod asking;
 mod lending;
 mod lines;
@@ -11,96 +9,49 @@ mod terms;
 mod unfolding;
 
 use asking::Asked;
-use copperjangle::Answer;
-use lending::Lent;
+use lending::{FILLED, FILLED_NUMBER, Lent};
+use serving::read_full;
 use std::io;
-use std::io::Read;
-use telling::say;
 use terms::Inputs;
 
-// The call, with output and room full of a pattern.
-fn ask(
-    asked: Asked,
-    inputs: Inputs,
-    cap: u64,
-    work: &[u8],
-    out: &mut [u8],
-    room: &mut [u64],
-) -> Answer {
-    lending::fill(out);
-    lending::fill_numbers(room);
-    let first = lines::part(work, inputs.first, inputs.first_end);
-    let second = lines::part(work, inputs.second, inputs.second_end);
-    asking::call(asked, cap, first, second, out, room)
-}
-
-// One call, lent just what it is to be lent, and its answer.
-fn answer_lent(
+// One call, lent just what it is to be lent, which is full of a pattern, and its answer.
+fn answer_one(
     rt: &impl Print,
     asked: Asked,
-    inputs: Inputs,
+    name: u64,
     cap: u64,
-    work: &[u8],
+    inputs: Inputs,
     out: &mut [u8],
     room: &mut [u64],
 ) -> io::Result<()> {
-    let answer = ask(asked, inputs, cap, work, out, room);
-    let length = lending::written(asked.kind, answer);
-    telling::tell(rt, asked.kind, answer, out, length)?;
-    lending::tell_changes(
-        rt,
-        out,
-        length,
-        room,
-        lending::cleared(asked.kind, answer.refusal, cap),
-    )?;
-    say(rt, b"\n")
+    out.fill(FILLED);
+    room.fill(FILLED_NUMBER);
+    let answer = asking::answer(asked, name, cap, inputs, out, room);
+    let written = lending::written(asked.call, answer, out);
+    telling::tell(rt, asked.call, answer, written)?;
+    let zeros = lending::cleared(asked.call, answer.refusal, cap);
+    lending::tell_changes(rt, out, written.len(), room, zeros)?;
+    rt.write_all(b"\n")
 }
 
 // A call in one order, or one in each.
-fn answer(
+fn answer_each(
     rt: &impl Print,
     asked: Asked,
     inputs: Inputs,
     lent: Lent,
-    work: &[u8],
     out: &mut [u8],
     room: &mut [u64],
 ) -> io::Result<()> {
-    let bytes = lent.bytes;
-    let numbers = lent.numbers;
-    if out.len() < bytes {
+    if out.len() < lent.bytes || room.len() < lent.numbers {
         return Ok(());
     }
-    if room.len() < numbers {
-        return Ok(());
-    }
-    for name in asking::first_named(asked.name)..asking::behind_named(asked.name) {
-        let one = Asked { name, ..asked };
-        answer_lent(
-            rt,
-            one,
-            inputs,
-            lent.cap,
-            work,
-            &mut out[..bytes],
-            &mut room[..numbers],
-        )?;
+    let out = &mut out[..lent.bytes];
+    let room = &mut room[..lent.numbers];
+    for name in asked.orders.numbers() {
+        answer_one(rt, asked, name, lent.cap, inputs, out, room)?;
     }
     Ok(())
-}
-
-// A text is the rest of the line.
-fn read_inputs(asked: Asked, work: &mut [u8], length: usize) -> Inputs {
-    if asked.kind == asking::PARSE {
-        return Inputs {
-            first: asked.from,
-            first_end: length,
-            second: length,
-            second_end: length,
-        };
-    }
-    terms::read(work, length, asked.from, asked.end, asked.next)
 }
 
 // What is lent from here on: a line that asks nothing is repeated, and may say it anew.
@@ -113,15 +64,19 @@ fn answer_line(
     room: &mut [u64],
 ) -> io::Result<Lent> {
     let length = unfolding::unfold(line, work);
-    let asked = asking::read(lines::part(work, 0, length));
-    if asking::KINDS <= asked.kind {
-        say(rt, line)?;
-        say(rt, b"\n")?;
-        return Ok(lending::read(line, lent));
+    let (unfolded, free) = work.split_at_mut(length);
+    match asking::read(unfolded) {
+        None => {
+            rt.write_all(line)?;
+            rt.write_all(b"\n")?;
+            Ok(lending::read(line, lent))
+        }
+        Some(asked) => {
+            let inputs = terms::read(asked, free);
+            answer_each(rt, asked, inputs, lent, out, room)?;
+            Ok(lent)
+        }
     }
-    let inputs = read_inputs(asked, work, length);
-    answer(rt, asked, inputs, lent, work, out, room)?;
-    Ok(lent)
 }
 
 // A line feed ends each line.
@@ -132,32 +87,12 @@ fn answer_lines(
     out: &mut [u8],
     room: &mut [u64],
 ) -> io::Result<()> {
-    let mut lent = lending::nothing();
-    let mut at: usize = 0;
-    for _ in 0..input.len() {
-        if input.len() <= at {
-            return Ok(());
-        }
-        let end = lines::word_end(input, at, b'\n');
-        lent = answer_line(rt, lines::part(input, at, end), lent, work, out, room)?;
-        at = lines::past(input, end);
+    let mut lent = Lent::default();
+    for line in input.split_inclusive(|&b| b == b'\n') {
+        let line = line.strip_suffix(b"\n").unwrap_or(line);
+        lent = answer_line(rt, line, lent, work, out, room)?;
     }
     Ok(())
-}
-
-// How many bytes standard input has, as far as there is room for them.
-fn read_full<R: Read>(reader: &mut R, buf: &mut [u8]) -> io::Result<usize>
-    ensures { ReadsAtMost result buf.new }
-{
-    let mut done: usize = 0;
-    while done < buf.len() {
-        let count = reader.read(&mut buf[done..])?;
-        if count == 0 {
-            return Ok(done);
-        }
-        done += count;
-    }
-    Ok(done)
 }
 
 fn answer_input(

@@ -2,107 +2,91 @@
 //
 // `\` is an abstraction, `@` an application, a hex digit a variable of that index; a greater index stands in brackets.
 // A word that begins with `=` has the coded bytes themselves.
-use crate::lines::{digit, hex, part, past, put, word_end};
+ghost use Rattle.std.specs.Prelude.{◌≤◌, length};
 
-// Bytes of the work, between two places.
-#[derive(Clone, Copy)]
-struct Place {
-    from: usize,
-    end: usize,
-}
+use crate::asking::{Asked, Call};
+use crate::lines::{cut, digit, hex, put};
 
-// The first input is between two places of the work, and the second between two others.
 #[derive(Clone, Copy)]
-pub(crate) struct Inputs {
-    pub(crate) first: usize,
-    pub(crate) first_end: usize,
-    pub(crate) second: usize,
-    pub(crate) second_end: usize,
+pub(crate) struct Inputs<'a> {
+    pub(crate) first: &'a [u8],
+    pub(crate) second: &'a [u8],
 }
 
 const VARIABLE_BYTES: usize = 9;
 
 // A variable, if there is room for its bytes.
-fn code_variable(work: &mut [u8], to: usize, index: u64) -> usize {
-    if work.len() < VARIABLE_BYTES {
+fn put_variable(free: &mut [u8], to: usize, index: u64) -> usize
+    requires { to ≤ length free.old }
+    ensures { result ≤ length free.new }
+{
+    let end = to + VARIABLE_BYTES;
+    if free.len() < end {
         return to;
     }
-    if work.len() - VARIABLE_BYTES < to {
-        return to;
-    }
-    work[to] = 1;
-    nodes::put_index(work, to + 1, index)
+    free[to] = 1;
+    free[to + 1..end].copy_from_slice(&index.to_le_bytes());
+    end
 }
 
-// The variable whose index stands in brackets, from a place on.
-fn code_bracket(work: &mut [u8], at: usize, to: usize) -> Place {
-    let close = word_end(work, at, b']');
-    let index = hex(part(work, at, close));
-    Place {
-        from: past(work, close),
-        end: code_variable(work, to, index),
+// The index of a variable in brackets, and what follows them; 0 where they are not closed.
+fn bracketed(marks: &[u8]) -> (u64, &[u8])
+    ensures { length result.1.now ≤ length marks.now }
+{
+    match marks.iter().position(|&b| b == b']') {
+        Some(at) => (hex(&marks[..at]), &marks[at + 1..]),
+        None => (0, &[]),
     }
 }
 
-// The node of a mark that a place is behind is put at another place; the places behind both.
-fn code_mark(work: &mut [u8], mark: u8, at: usize, to: usize) -> Place {
-    match mark {
-        b'\\' => Place {
-            from: at,
-            end: put(work, to, 2),
-        },
-        b'@' => Place {
-            from: at,
-            end: put(work, to, 3),
-        },
-        b'[' => code_bracket(work, at, to),
-        _ => Place {
-            from: at,
-            end: code_variable(work, to, digit(mark)),
-        },
-    }
-}
-
-// The bytes of the marks between two places are put from another on; the place behind them.
-fn code_marks(work: &mut [u8], from: usize, end: usize, to: usize) -> usize {
-    let mut done = Place { from, end: to };
-    for _ in from..end {
-        let at = done.from;
-        if end <= at {
-            return done.end;
+// The bytes of a term's marks, as far as there is room for them; how many they are. A mark that is none is a variable too.
+fn put_term(free: &mut [u8], marks: &[u8]) -> usize
+    ensures { result ≤ length free.new }
+{
+    let mut left = marks;
+    let mut to: usize = 0;
+    while let Some((&mark, after)) = left.split_first() {
+        left = after;
+        match mark {
+            b'\\' => {
+                to = put(free, to, 2);
+            }
+            b'@' => {
+                to = put(free, to, 3);
+            }
+            b'[' => {
+                let (index, after) = bracketed(left);
+                to = put_variable(free, to, index);
+                left = after;
+            }
+            _ => {
+                to = put_variable(free, to, digit(mark).unwrap_or(16));
+            }
         }
-        if work.len() <= at {
-            return done.end;
-        }
-        let mark = work[at];
-        done = code_mark(work, mark, at + 1, done.end);
     }
-    done.end
+    to
 }
 
-// The bytes of the word between two places, which are put from another on if they do not stand there.
-fn code(work: &mut [u8], from: usize, end: usize, to: usize) -> Place {
-    if word_end(part(work, 0, end), from, b'=') == from {
-        return Place {
-            from: past(work, from),
-            end,
+// The bytes that a word writes, which are put first in the room that is free if they are not its own, and the room left.
+fn coded<'a>(word: &'a [u8], free: &'a mut [u8]) -> (&'a [u8], &'a mut [u8]) {
+    if let Some(bytes) = word.strip_prefix(b"=") {
+        return (bytes, free);
+    }
+    let length = put_term(free, word);
+    let (term, left) = free.split_at_mut(length);
+    (term, left)
+}
+
+// A text is the rest of the line; of two inputs the second is.
+pub(crate) fn read<'a>(asked: Asked<'a>, free: &'a mut [u8]) -> Inputs<'a> {
+    if asked.call == Call::Parse {
+        return Inputs {
+            first: asked.inputs,
+            second: &[],
         };
     }
-    Place {
-        from: to,
-        end: code_marks(work, from, end, to),
-    }
-}
-
-// The line takes the first so many bytes of the work. Its first input is between two places of it, and a second one
-// follows another place.
-pub(crate) fn read(work: &mut [u8], length: usize, from: usize, end: usize, next: usize) -> Inputs {
-    let first = code(work, from, end, length);
-    let second = code(work, next, length, first.end.max(length));
-    Inputs {
-        first: first.from,
-        first_end: first.end,
-        second: second.from,
-        second_end: second.end,
-    }
+    let (first, second) = cut(asked.inputs, b' ');
+    let (first, left) = coded(first, free);
+    let (second, _) = coded(second, left);
+    Inputs { first, second }
 }
