@@ -39,7 +39,7 @@ fn bracketed(marks: &[u8]) -> (u64, &[u8])
     }
 }
 
-// The bytes of a term's marks, as far as there is room for them; how many they are. A mark that is none is a variable too.
+// The bytes of a term's marks, as far as there is room for them, and how many they are. Any other mark is a variable.
 fn put_term(free: &mut [u8], marks: &[u8]) -> usize
     ensures { result ≤ length free.new }
 {
@@ -67,7 +67,7 @@ fn put_term(free: &mut [u8], marks: &[u8]) -> usize
     to
 }
 
-// The bytes that a word writes, which are put first in the room that is free if they are not its own, and the room left.
+// The bytes that a word writes, put first in the free room unless they are the word's own, and the room left.
 fn coded<'a>(word: &'a [u8], free: &'a mut [u8]) -> (&'a [u8], &'a mut [u8]) {
     if let Some(bytes) = word.strip_prefix(b"=") {
         return (bytes, free);
