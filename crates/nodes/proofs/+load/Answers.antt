@@ -29,18 +29,9 @@ app-head : (t : ℕ) (c : In-Application t)
     head_in (drop a.at a.s.now) ≡ Some Application
 app-head t c = sym c.head_at.ensures ∙ c.unwrap.ensures ∙ ap Some c.in-Application.is
 
-pub overflow_add-result : goal.overflow_add-result
-overflow_add-result t c =
-    let (_, inside) = variable_asks (var-head t (goal.at.overflow_add-result t c).In-Variable) c.requires in
-    omega arith
-
 pub make_variable-requires : goal.make_variable-requires
 make_variable-requires t c =
     (variable_asks (var-head t (goal.at.make_variable-requires t c).In-Variable) c.requires).0
-
-pub overflow_add-at : goal.overflow_add-at
-overflow_add-at t c =
-    omega (arith, (body_asks (lam-head t (goal.at.overflow_add-at t c).In-Abstraction) c.requires).inside)
 
 pub load-body-requires : goal.load-body-requires
 load-body-requires t c =
@@ -54,10 +45,6 @@ overflow_sub-top t c =
 pub make_abstraction-requires : goal.make_abstraction-requires
 make_abstraction-requires t c =
     abstraction_asks (lam-head t (goal.at.make_abstraction-requires t c).In-Abstraction) c.requires c.load-body.ensures
-
-pub overflow_add-at-in-Application : goal.overflow_add-at-in-Application
-overflow_add-at-in-Application t c =
-    omega (arith, (left_asks (app-head t (goal.at.overflow_add-at-in-Application t c).In-Application) c.requires).inside)
 
 pub load-left-requires : goal.load-left-requires
 load-left-requires t c =

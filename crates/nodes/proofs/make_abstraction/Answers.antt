@@ -6,12 +6,6 @@ use Rattle.nodes.proofs.Keeping.{says}
 use Rattle.nodes.proofs.Making.{abstraction-word, abstraction-small, says-abstraction, abstraction-made}
 use Rattle.nodes.proofs.make_abstraction.Goals as goal
 
-pub pack-facts-requires : goal.pack-facts-requires
-pack-facts-requires c =
-    let w = word c.args.room.now c.args.body in
-    let (kind, few, low, free, normal) = abstraction-small w (omega arith) (omega arith) in
-    (kind, omega arith, omega arith, rw (c.lower.ensures, c.free_of.ensures) free, omega arith)
-
 pub returns : goal.returns
 returns c =
     let a = c.args in

@@ -6,14 +6,6 @@ use Rattle.nodes.proofs.Keeping.{says}
 use Rattle.nodes.proofs.Making.{application-word, application-small, says-application, application-made}
 use Rattle.nodes.proofs.make_application.Goals as goal
 
-pub pack-facts-requires : goal.pack-facts-requires
-pack-facts-requires c =
-    let x = c.args in
-    let a = word x.room.now x.left in
-    let b = word x.room.now x.right in
-    let (kind, few, low, free, normal) = application-small a b (omega arith) (omega arith) in
-    (kind, omega arith, omega arith, omega arith, rw c.settle.ensures normal)
-
 pub returns : goal.returns
 returns c =
     let x = c.args in

@@ -11,11 +11,6 @@ overflow_sub-left c =
     let asked = c.requires in
     (left-low asked c.height_of.ensures c.measure-found.ensures c.nodes_of.ensures).0
 
-pub bursts-bursts-requires : goal.bursts-bursts-requires
-bursts-bursts-requires c =
-    burst_asks c.requires c.height_of.ensures
-    c.measure-found.ensures
-
 pub overflow_mul-nodes : goal.overflow_mul-nodes
 overflow_mul-nodes c =
     let asked = c.requires in
