@@ -1,5 +1,5 @@
 -- Making a term anew: copied nodes keep their first numbers and so say the same, and moved nodes are the same terms.
-use Prim.Native.Nat.{ℕ, ◌+◌, ◌*◌, ◌-◌, ◌≤◌, ◌<◌}
+use Prim.Native.Nat.{ℕ, ◌+◌, ◌*◌, ◌/◌, ◌%◌, ◌-◌, ◌≤◌, ◌<◌}
 use mathlib.Core.Path.{◌≡◌, refl, sym, ap, ap₂, ◌∙◌}
 use mathlib.Core.List.{List}
 use native.Mathlib.Omega.{arith}
@@ -7,7 +7,8 @@ use lib.ListN.{length, drop, set, length-drop}
 use lib.Seq.{drop-set-add}
 use Rattle.calculus.specs.Term.{Term, var, lam, app, nodes}
 use Rattle.calculus.proofs.Measures.{nodes_positive}
-use Rattle.nodes.specs.Store.{Says, Holds, Same, word, link}
+use Rattle.nodes.specs.Packing.{kind_in}
+use Rattle.nodes.specs.Store.{Says, Holds, Same, word, link, kind}
 use Rattle.nodes.specs.Node.{node_in}
 use Rattle.nodes.specs.declared.Node.{Node}
 use Rattle.nodes.specs.declared.Node.TheVariants.{Variable, Abstraction, Application}
@@ -15,7 +16,7 @@ use Rattle.nodes.proofs.Keeping.{same_refl, same_then, holds_kept, says}
 use Rattle.nodes.proofs.Stored.{stored}
 use Rattle.nodes.proofs.Making.{variable-made, abstraction-made, application-made}
 use Rattle.nodes.proofs.Parts.{HeldAbstraction, HeldApplication}
-use Rattle.nodes.proofs.Parts.{held-variable, held-abstraction, held-application}
+use Rattle.nodes.proofs.Parts.{held-variable, held-abstraction, held-application, reads_application}
 use Rattle.nodes.proofs.Holding.{held_once}
 use Rattle.engine.specs.Moving.{from_base, Copiable, Copies}
 
@@ -200,13 +201,18 @@ module _ {t : Term} {store : List ℕ} {node base used : ℕ} (can : Copiable t 
             (same_then (omega (arith, left.made)) left.kept right.kept) (omega (arith, left.made))
             (omega (arith, left.made, right.made)) new)
 
--- the parts of an application that a node is, and their sizes
-pub parts_held : {t : Term} {store : List ℕ} {node : ℕ} → Holds store t node → {found : Node}
-    → found ≡ node_in (word store node) (link store node) → {m n : ℕ} → found ≡ Application m n
-    → Holds store t node × ((v : HeldApplication store node m n t) × (nodes t ≡ nodes v.left + nodes v.right + 1))
-unfolding nodes
-parts_held {t} {store} {node} held told is =
-    let v = held-application store node told t held is in
+-- the parts of an application that a node is by its kind, and their sizes
+pub parts_held : {t : Term} {store : List ℕ} {node : ℕ} → Holds store t node → (kind_in (word store node) ≡ 1 → ⊥)
+    → (kind_in (word store node) ≡ 2 → ⊥)
+    → Holds store t node
+    × ((v : HeldApplication store node (link store node % 4294967296) (link store node / 4294967296) t)
+    × (nodes t ≡ nodes v.left + nodes v.right + 1))
+unfolding nodes kind Holds
+parts_held {t = var i} held not1 not2 = absurd (not1 held.0.kind_is)
+parts_held {t = lam b} held not1 not2 = absurd (not2 held.0.kind_is)
+parts_held {t = app l r} {store} {node} held not1 not2 =
+    let is = reads_application (word store node) (link store node) held.0.kind_is in
+    let v = held-application store node refl (app l r) held is in
     (held, (v, omega (arith, ap nodes v.same)))
 
 -- a node below those that were added is still the term
@@ -214,6 +220,3 @@ pub still_held : {before after : List ℕ} {used : ℕ} (t : Term) (node : ℕ) 
     → Same before after used → node < used
     → Holds before t node × Holds after t node
 still_held t node held same below = (held, holds_kept t node same below held)
-
--- what closes the goal that the number after a right part is not 0
-pub ruleset copying = (nodes_positive, parts_held, still_held)

@@ -2,7 +2,7 @@
 use native.Mathlib.Omega.{arith}
 use borrow.Author.Rules.{rules}
 use mathlib.Core.Path.{refl}
-use Rattle.engine.proofs.AtOnce.{at_spent, body-inside, sum_small, contractible, assured}
+use Rattle.engine.proofs.AtOnce.{at_spent, body-inside, contractible, assured}
 use Rattle.engine.proofs.contracting.contract.Goals as goal
 
 pub returns-then-work-eq0 : goal.returns-then-work-eq0
@@ -33,22 +33,6 @@ pub returns-then-free_of-ge-UNKNOWN : goal.returns-then-free_of-ge-UNKNOWN
 returns-then-free_of-ge-UNKNOWN c b a redex =
     c.contract_weighed.ensures b a (contractible redex c.nodes_of-own.ensures
     c.nodes_of-each.ensures c.if-work-eq0.false)
-
-pub overflow_mul-bound : goal.overflow_mul-bound
-overflow_mul-bound c =
-    omega (arith, sum_small c.requires.2 c.nodes_of-own.ensures c.nodes_of-each.ensures)
-
-pub overflow_add-bound-2 : goal.overflow_add-bound-2
-overflow_add-bound-2 c =
-    omega (arith, sum_small c.requires.2 c.nodes_of-own.ensures c.nodes_of-each.ensures)
-
-pub overflow_add-work : goal.overflow_add-work
-overflow_add-work c =
-    omega (arith, sum_small c.requires.2 c.nodes_of-own.ensures c.nodes_of-each.ensures)
-
-pub overflow_add-work-2 : goal.overflow_add-work-2
-overflow_add-work-2 c =
-    omega (arith, sum_small c.requires.2 c.nodes_of-own.ensures c.nodes_of-each.ensures)
 
 pub contract_weighed-requires-then-room-work : goal.contract_weighed-requires-then-room-work
 contract_weighed-requires-then-room-work c = (

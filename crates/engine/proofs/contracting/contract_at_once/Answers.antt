@@ -1,25 +1,12 @@
 -- `engine::contracting::contract_at_once` meets its contract: each return by a law of `AtOnce`.
-use native.Mathlib.Omega.{arith}
 use mathlib.Core.Path.{refl}
 use Rattle.engine.proofs.Contractions.{put_asks}
-use Rattle.engine.proofs.AtOnce.{node-inside, made_high, made-many, made-here}
+use Rattle.engine.proofs.AtOnce.{made_high, made-many, made-here}
 use Rattle.engine.proofs.contracting.contract_at_once.Goals as goal
 
 pub put_in-made-requires : goal.put_in-made-requires
 put_in-made-requires c =
     put_asks c.requires.2
-
-pub overflow_mul-w : goal.overflow_mul-w
-overflow_mul-w c =
-    omega (arith, node-inside c.requires.2 c.put_in-made.ensures)
-
-pub offset_bounds-room-made : goal.offset_bounds-room-made
-offset_bounds-room-made c =
-    omega (arith, node-inside c.requires.2 c.put_in-made.ensures)
-
-pub bounds-room-made : goal.bounds-room-made
-bounds-room-made c =
-    omega (arith, node-inside c.requires.2 c.put_in-made.ensures)
 
 pub returns-then-depth-height_of-gt-MOST_HEIGHT : goal.returns-then-depth-height_of-gt-MOST_HEIGHT
 returns-then-depth-height_of-gt-MOST_HEIGHT c b a sure =

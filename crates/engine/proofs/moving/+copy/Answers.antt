@@ -2,8 +2,8 @@
 use Prim.Native.Nat.{ℕ, ◌+◌, ◌*◌, ◌≤◌, ◌<◌}
 use native.Mathlib.Omega.{arith}
 use lib.ListN.{length}
-use Rattle.engine.proofs.Renewing.{at_variable, body_asks, abstraction-fits, at_abstraction}
-use Rattle.engine.proofs.Renewing.{application-fits, at_application}
+use Rattle.engine.proofs.Renewing.{variable-fits, at_variable, body_asks, abstraction-fits, at_abstraction}
+use Rattle.engine.proofs.Renewing.{left_asks, right_asks, application-fits, at_application}
 use Rattle.engine.proofs.moving.+copy.Goals as goal
 use Rattle.engine.proofs.moving.+copy.Goals.{After-copy-top, After-copy-top-in-Application}
 
@@ -21,6 +21,15 @@ parts-copied : (t : ℕ) (c : After-copy-top-in-Application t)
     × (2 * (c.args.base + c.copy-top-in-Application.result) + 2 ≤ length c.copy-top-in-Application.new.store)
 parts-copied t c =
     application-fits c.requires.1 c.node_at.ensures c.in-Application.is c.copy-middle.ensures c.copy-top-in-Application.ensures
+
+pub overflow_add-base : goal.overflow_add-base
+overflow_add-base t c =
+    let (low, _) = variable-fits c.requires.1 c.node_at.ensures in
+    omega arith
+
+pub put-requires : goal.put-requires
+put-requires t c =
+    (variable-fits c.requires.1 c.node_at.ensures).1
 
 pub returns-in-Variable : goal.returns-in-Variable
 returns-in-Variable t c =
@@ -44,6 +53,33 @@ pub returns-in-Abstraction : goal.returns-in-Abstraction
 returns-in-Abstraction t c =
     λ u can. at_abstraction can c.node_at.ensures c.in-Abstraction.is c.copy-top.ensures
     c.put-in-Abstraction.ensures
+
+pub copy-middle-requires : goal.copy-middle-requires
+copy-middle-requires t c =
+    let (falls, asks) = left_asks c.requires.1 c.node_at.ensures c.in-Application.is in
+    (omega arith, asks)
+
+pub copy-top-requires-in-Application : goal.copy-top-requires-in-Application
+copy-top-requires-in-Application t c =
+    let (falls, asks) = right_asks c.requires.1 c.node_at.ensures c.in-Application.is c.copy-middle.ensures in
+    (omega arith, asks)
+
+pub overflow_add-base-in-Application : goal.overflow_add-base-in-Application
+overflow_add-base-in-Application t c = let (_, _, low, _) = parts-copied t (goal.at.overflow_add-base-in-Application t c).After-copy-top-in-Application in omega arith
+
+pub overflow_sub-middle : goal.overflow_sub-middle
+overflow_sub-middle t c = (parts-copied t (goal.at.overflow_sub-middle t c).After-copy-top-in-Application).0
+
+pub overflow_sub-top-in-Application : goal.overflow_sub-top-in-Application
+overflow_sub-top-in-Application t c =
+    omega (arith, parts-copied t (goal.at.overflow_sub-top-in-Application t c).After-copy-top-in-Application)
+
+pub pair-requires : goal.pair-requires
+pair-requires t c =
+    let (_, more, low, _) = parts-copied t (goal.at.pair-requires t c).After-copy-top-in-Application in (omega arith, omega arith)
+
+pub put-requires-in-Application : goal.put-requires-in-Application
+put-requires-in-Application t c = (parts-copied t (goal.at.put-requires-in-Application t c).After-copy-top-in-Application).3
 
 pub returns-in-Application : goal.returns-in-Application
 returns-in-Application t c =
