@@ -5,6 +5,7 @@ ghost use Rattle.nodes.proofs.Stored.{Stored};
 ghost use Rattle.eta.specs.Store.{node_in, Packable, word_of, link_of};
 
 // In a node's first number: its kind, and at an abstraction 4 more if its binder is linear, and 8 for each level.
+// They stay numbers: the room is lent as numbers.
 const BOUND: u64 = 0;
 
 const FREE: u64 = 1;
@@ -33,7 +34,7 @@ pub(crate) enum Node {
     Application(usize, usize),
 }
 
-// What a node is. The room is lent as numbers; they are read here alone.
+// What a node is: its numbers are read here alone.
 pub(crate) fn named_at(room: &[u64], node: usize) -> Node
     requires { 2 * node + 2 ≤ length room.now }
     ensures read { result ≡ node_in (word room.now node) (link room.now node) }
@@ -53,7 +54,7 @@ pub(crate) fn named_at(room: &[u64], node: usize) -> Node
     }
 }
 
-// Node `used` becomes this one; the number of the next node is returned. The numbers are made here alone.
+// Node `used` becomes this one; the number of the next node is returned. Its numbers are made here alone.
 pub(crate) fn put_named(room: &mut [u64], used: usize, node: Node) -> usize
     requires { (2 * used + 2 ≤ length room.old) × Packable node }
     ensures { (result ≡ used + 1) × Stored room.old room.new used (word_of node) (link_of node) }

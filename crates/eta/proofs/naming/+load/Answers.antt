@@ -2,10 +2,9 @@
 use Rattle.std.specs.Prelude.{◌&&◌, ◌||◌, not, eqb, get_or}
 use mathlib.Core.Path.{◌≡◌, sym, ◌∙◌}
 use native.Mathlib.Omega.{arith}
-use borrow.Author.Rules.{rules}
 use borrow.Author.Tests.{eq-eqb, ne_eqb}
 use Rattle.term.proofs.Places.{head_stands}
-use Rattle.eta.proofs.Loaded.{some-made, counts-length, variable-inside, variable_asks, at_variable}
+use Rattle.eta.proofs.Loaded.{some-made, counts-length, variable_asks, at_variable}
 use Rattle.eta.proofs.Loaded.{depth_low, depth_inside, body_asks, binder-fits, at_abstraction}
 use Rattle.eta.proofs.Loaded.{left_asks, right_asks, parts-made, application-fits, at_application}
 use Rattle.eta.proofs.naming.+load.Goals as goal
@@ -15,10 +14,6 @@ pub unwrap-requires : goal.unwrap-requires
 unwrap-requires t c = head_stands c.requires.stands _ c.head_at.ensures
 
 -- A VARIABLE
-pub overflow_add-result : goal.overflow_add-result
-overflow_add-result t c =
-    omega (arith, variable-inside (sym c.head_at.ensures ∙ c.in-Variable.ensures) c.requires)
-
 pub name-requires : goal.name-requires
 name-requires t c = variable_asks (sym c.head_at.ensures ∙ c.in-Variable.ensures) c.requires
 
@@ -26,26 +21,13 @@ pub returns-in-Variable : goal.returns-in-Variable
 returns-in-Variable t c = at_variable (sym c.head_at.ensures ∙ c.in-Variable.ensures) c.name.ensures
 
 -- AN ABSTRACTION
-pub offset_bounds-counts-depth : goal.offset_bounds-counts-depth
-offset_bounds-counts-depth t c = let low = depth_low c.requires in search rules
-
 pub bounds-counts-depth : goal.bounds-counts-depth
 bounds-counts-depth t c = depth_inside c.requires
-
-pub overflow_add-at : goal.overflow_add-at
-overflow_add-at t c =
-    omega (arith, (body_asks (sym c.head_at.ensures ∙ c.in-Abstraction.ensures) c.requires).inside)
-
-pub overflow_add-depth : goal.overflow_add-depth
-overflow_add-depth t c = let low = depth_low c.requires in search rules
 
 pub load-body-requires : goal.load-body-requires
 load-body-requires t c =
     let asks = body_asks (sym c.head_at.ensures ∙ c.in-Abstraction.ensures) c.requires in
     (omega (arith, asks.inside), asks)
-
-pub offset_bounds-counts-depth-in-Abstraction : goal.offset_bounds-counts-depth-in-Abstraction
-offset_bounds-counts-depth-in-Abstraction t c = let low = depth_low c.requires in search rules
 
 pub bounds-counts-depth-in-Abstraction : goal.bounds-counts-depth-in-Abstraction
 bounds-counts-depth-in-Abstraction t c =
@@ -73,10 +55,6 @@ returns-after-once t c =
     at_abstraction (sym c.head_at.ensures ∙ c.in-Abstraction.ensures) c.requires c.load-body.ensures linear next added
 
 -- AN APPLICATION
-pub overflow_add-at-in-Application : goal.overflow_add-at-in-Application
-overflow_add-at-in-Application t c =
-    omega (arith, (left_asks (sym c.head_at.ensures ∙ c.in-Application.ensures) c.requires).inside)
-
 pub load-left-requires : goal.load-left-requires
 load-left-requires t c =
     let asks = left_asks (sym c.head_at.ensures ∙ c.in-Application.ensures) c.requires in

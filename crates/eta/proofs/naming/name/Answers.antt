@@ -21,11 +21,6 @@ returns-then-around-index c =
     rw (called_loose a.depth a.index c.if-index-eq0.false c.if-around-index.true)
     (next, added.same, loose-stored added refl, counts-loose a.counts.now a.depth (a.index - a.depth))
 
-pub overflow_add-counts : goal.overflow_add-counts
-overflow_add-counts c =
-    let a = c.args in
-    omega (arith, c.requires.2.few (a.depth - a.index) (omega arith))
-
 pub returns : goal.returns
 returns c =
     let a = c.args in
