@@ -60,3 +60,11 @@ module _ {s : List ℕ} (clean : Clean s) where
   pub other-names : (x y : Name) → (get_or (bytes_at s x) 0 0 ≡ get_or (bytes_at s y) 0 0 → ⊥)
       → false ≡ same_text (name_of s x) (name_of s y)
   other-names x y n = heads_differ (bytes_at s x) (bytes_at s y) n ∙ same-names x y
+
+  -- what `==` of the slices tells
+  pub alike-names : (x y : Name) → {b : Bool} → b ≡ pointwise eqb (bytes_at s x) (bytes_at s y)
+      → b ≡ same_text (name_of s x) (name_of s y)
+  alike-names x y is = is ∙ same_text-pointwise (bytes_at s x) (bytes_at s y) ∙ same-names x y
+
+-- what `same_name` is proved by
+pub ruleset naming = (other-names, alike-names)

@@ -16,6 +16,7 @@ impl<'a> Text<'a> {
     ghost use Rattle.words.specs.Places.{name_of, Inside};
 
     // Whether two names are the same text.
+    #[tactic(auto, using(crate::proofs::SameNames::naming))]
     pub fn same_name(self, x: Name, y: Name) -> bool
         requires { Inside self.bytes.now x × Inside self.bytes.now y }
         ensures { result ≡ same_text (name_of self.entry.bytes.now x) (name_of self.entry.bytes.now y) }
