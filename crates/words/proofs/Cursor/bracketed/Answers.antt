@@ -2,9 +2,9 @@
 use mathlib.Core.Path.{sym, ◌∙◌}
 use native.Mathlib.Omega.{arith}
 use Rattle.words.proofs.Tables.{digit_few, only_none}
-use Rattle.words.proofs.Passing.{Stands, past-further}
+use Rattle.words.proofs.Passing.{Stands}
 use Rattle.words.proofs.Indices.{opened-last, opened_wrong, so_far_starts, so_far_goes_on, so_far_over}
-use Rattle.words.proofs.Indices.{still_stands, so_far_wrong, so_far_closes, so_far_ends}
+use Rattle.words.proofs.Indices.{so_far_wrong, so_far_closes, so_far_ends}
 use Rattle.words.proofs.Cursor.bracketed.Goals as goal
 
 pub returns-then-text-first : goal.returns-then-text-first
@@ -26,9 +26,6 @@ loop-here-init c =
     so_far_starts stands c.past-here.ensures bracket c.if-text-first.false
     (sym c.hex_digit.ensures ∙ c.in-Some.is) c.past-here-2.ensures
 
-pub past-requires : goal.past-requires
-past-requires c = (c.loop-here.invariant.placed, c.loop-here-test.true)
-
 pub returns-then-b-eq93 : goal.returns-then-b-eq93
 returns-then-b-eq93 c =
     let so_far = c.loop-here.invariant in
@@ -43,14 +40,6 @@ pub returns-then-index-gt-MOST_TO_LENGTHEN : goal.returns-then-index-gt-MOST_TO_
 returns-then-index-gt-MOST_TO_LENGTHEN c =
     let so_far = c.loop-here.invariant in
     so_far_over so_far c.loop-here-test.true (sym c.hex_digit-in-loop-here.ensures ∙ c.in-Some-hex_digit.is) (omega arith)
-
-pub past-here-requires-in-loop-here : goal.past-here-requires-in-loop-here
-past-here-requires-in-loop-here c = (c.loop-here.invariant.placed, c.loop-here-test.true)
-
-pub loop-here-smaller : goal.loop-here-smaller
-loop-here-smaller c =
-    let so_far = c.loop-here.invariant in
-    omega (arith, c.loop-here-test.true, past-further (still_stands so_far c.loop-here-test.true) c.past-here-in-loop-here.ensures)
 
 pub loop-here-preserved : goal.loop-here-preserved
 loop-here-preserved c =

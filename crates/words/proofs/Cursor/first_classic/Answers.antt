@@ -1,9 +1,7 @@
 -- `words::Cursor::first_classic` meets its contract: the byte decides the word.
 use mathlib.Core.Path.{refl, sym, ◌∙◌}
-use native.Mathlib.Omega.{arith}
 use Rattle.calculus.specs.Classic.{first_word, word_at, glyph}
 use Rattle.words.specs.declared.Word.TheVariants.{Left, Right}
-use Rattle.words.proofs.Passing.{past-further}
 use Rattle.words.proofs.Telling.{ends, goes-past, stops-here}
 use Rattle.words.proofs.ClassicWords.{first-binder, first-name, first_wrong}
 use Rattle.words.proofs.Cursor.first_classic.Goals as goal
@@ -12,20 +10,10 @@ pub returns-then-text-at : goal.returns-then-text-at
 unfolding first_word
 returns-then-text-at c = ends first_word c.requires c.if-text-at.true refl
 
-pub binder-requires : goal.binder-requires
-binder-requires c =
-    let past = c.past-next.ensures in
-    (past.1, omega (arith, past-further (c.args.text.clean, c.requires, c.if-text-at.false) past))
-
 pub returns-then-b-eq92 : goal.returns-then-b-eq92
 unfolding first_word word_at glyph
 returns-then-b-eq92 c =
     first-binder (c.args.text.clean, c.requires, c.if-text-at.false) c.past-next.ensures (rw c.if-b-eq92.true) c.binder.ensures
-
-pub binder-requires-then-b : goal.binder-requires-then-b
-binder-requires-then-b c =
-    let past = c.past-next.ensures in
-    (past.1, omega (arith, past-further (c.args.text.clean, c.requires, c.if-text-at.false) past))
 
 pub returns-then-b : goal.returns-then-b
 unfolding first_word word_at glyph

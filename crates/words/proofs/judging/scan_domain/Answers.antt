@@ -1,13 +1,10 @@
 -- `scan_domain` meets its contract.
 use Rattle.std.proofs.Common.{sym, ◌∙◌, arith, rules}
 use Rattle.words.specs.Judging.{is_inside, is_outside}
-use Rattle.words.proofs.Domains.{none_passed, all-passed, pass_sign, pass_plain}
+use Rattle.words.proofs.Domains.{all-passed, pass_sign, pass_plain}
 use Rattle.words.proofs.Domains.{outside_last, outside_lone, outside_plain}
 use Rattle.words.proofs.judging.scan_domain.Goals as goal
 use Rattle.words.proofs.judging.scan_domain.Goals.{in_default-via-then-after-lt1, in_default-via-else-after-lt1+in_default-1}
-
-pub loop-rest-init : goal.loop-rest-init
-loop-rest-init c = none_passed _ (λ i. (c.type_inv.text i).fits)
 
 pub returns-in-empty : goal.returns-in-empty
 returns-in-empty c =
