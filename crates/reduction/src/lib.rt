@@ -57,8 +57,9 @@ fn work(cap: usize, s: &[u8], u: &[u8], out: &mut [u8], store: &mut [u64]) -> Re
     let top = load_checked(cap, s, store, 0)?;
     let used = load_checked(cap, u, store, top)?;
     let root = top - 1;
+    let argument = used - 1;
     if let Node::Abstraction(body) = nodes::node_at(store, root) {
-        return contract(cap, store, used, body, used - 1, out);
+        return contract(cap, store, used, body, argument, out);
     }
     Err(Refusal::NotAbs)
 }

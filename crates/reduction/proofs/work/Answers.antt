@@ -42,8 +42,8 @@ overflow_sub-root c = omega (arith, both (goal.at.overflow_sub-root c).In_ok-use
 pub node_at-requires : goal.node_at-requires
 node_at-requires c = omega (arith, both (goal.at.node_at-requires c).In_ok-used)
 
-pub overflow_sub-used : goal.overflow_sub-used
-overflow_sub-used c = omega (arith, both (goal.at.overflow_sub-used c).In_ok-used)
+pub overflow_sub-argument : goal.overflow_sub-argument
+overflow_sub-argument c = omega (arith, both (goal.at.overflow_sub-argument c).In_ok-used)
 
 pub contract-requires : goal.contract-requires
 contract-requires c =
