@@ -97,4 +97,4 @@ module _ {store : List ℕ} {most : ℕ} {read : Built} {out : List ℕ} where
         saves-term saved = record { saves = λ st m. stored_there low few there.lent saved (rw is at m) }
 
 -- the laws by which `save` is proved
-pub ruleset saving = (nothing_read, empty-read, too_high-read, too_many-read, savable, stored_there)
+pub ruleset saving = (nothing_read, empty-read, too_high-read, too_many-read, savable, saves-term)
