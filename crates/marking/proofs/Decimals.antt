@@ -37,3 +37,5 @@ digits-few (suc most) n = by_size (numeral 10 most (n / 10)) (digits-few most (n
         → length (cond b [] ds ++ (figure (n % 10) ∷ [])) ≤ suc most
     by_size ds h true = omega arith
     by_size ds h false = omega (arith, length-append ds (figure (n % 10) ∷ []))
+
+pub ruleset decimal = (no_digit, one_digit, more_digits, digits-few)

@@ -38,6 +38,7 @@ const ROOM: usize = 8192;
 pub const MOST_OUTPUT: usize = 20500;
 
 // The two lines of a run that reached a term.
+#[tactic(auto, using(crate::proofs::Lines::term_fits))]
 fn report_run(word: &[u8], steps: u64, notation: Notation, s: &[u8], out: &mut [u8]) -> usize
     requires { (length word.now ≤ most_word) × Printable s.now most_line out.old }
     ensures { Reports word.now steps (notation_of notation) s.now out.old

@@ -16,6 +16,7 @@ const DIGITS: u64 = 7;
 
 // A number in as many digits as it needs, of at most so many. Each digit but the last is one more call.
 // stays: `Display` writes to a `fmt::Write`, and one over the lent bytes would owe these clauses again, no plainer
+#[tactic(auto, using(crate::proofs::Decimals::decimal))]
 fn put_decimal(out: &mut [u8], to: usize, most: u64, number: u64) -> usize
     requires { to + most ≤ greatest_number }
     ensures { Puts out.old to (numeral 10 most number) result out.new }
@@ -30,6 +31,7 @@ fn put_decimal(out: &mut [u8], to: usize, most: u64, number: u64) -> usize
     put(out, last, b'0' + (number % 10) as u8)
 }
 
+#[tactic(auto, using(crate::proofs::Decimals::decimal))]
 pub(crate) fn put_line(out: &mut [u8], word: &[u8], number: u64) -> usize
     requires { length word.now ≤ most_word }
     ensures { Puts out.old 0 (line word.now number) result out.new }
@@ -40,6 +42,7 @@ pub(crate) fn put_line(out: &mut [u8], word: &[u8], number: u64) -> usize
     put(out, end, b'\n')
 }
 
+#[tactic(auto, unfolding(calculus::specs::Characters::codes, calculus::specs::Numbers::numeral))]
 pub(crate) fn put_refusal(out: &mut [u8], why: Refusal) -> usize
     ensures { Puts out.old 0 (refused_line (refusal_of why)) result out.new }
 {

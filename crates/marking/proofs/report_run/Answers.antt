@@ -4,13 +4,8 @@ use Rattle.calculus.specs.Program.{line}
 use Rattle.calculus.specs.Writing.{write_text}
 use Rattle.calculus.proofs.Putting.{puts_then}
 use Rattle.term.specs.Notations.{notation_of}
-use Rattle.marking.proofs.Lines.{term_fits, feed_fits}
+use Rattle.marking.proofs.Lines.{feed_fits}
 use Rattle.marking.proofs.report_run.Goals as goal
-
-pub put_term-end-requires : goal.put_term-end-requires
-put_term-end-requires c =
-    term_fits c.args.word.now c.args.steps c.requires.0 c.requires.1
-    c.put_line-text.ensures
 
 pub put-requires : goal.put-requires
 put-requires c =

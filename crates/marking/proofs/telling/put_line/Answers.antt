@@ -1,21 +1,8 @@
 -- `marking::telling::put_line` meets its contract: a word, a space, digits and a line feed, one after the other.
 use mathlib.Core.List.{[], ◌∷◌, ◌++◌}
-use native.Mathlib.Omega.{arith}
 use Rattle.calculus.specs.Numbers.{numeral}
 use Rattle.calculus.proofs.Putting.{puts_then}
-use Rattle.marking.proofs.Decimals.{digits-few}
 use Rattle.marking.proofs.telling.put_line.Goals as goal
-
-pub put-requires : goal.put-requires
-put-requires c =
-    omega (
-      arith,
-      c.requires,
-      c.put_all-gap.ensures.reached,
-      c.put-digits.ensures.reached,
-      c.put_decimal-end.ensures.reached,
-      digits-few 7 c.args.number,
-    )
 
 pub returns : goal.returns
 returns c =
