@@ -157,7 +157,8 @@ module _ {n : Notation} {s : List ℕ} {at₀ d₀ : ℕ} {part₀ : Part} {room
   some : 0 < room
   some = omega arith
 
-  pub at_variable : {i v deeper : ℕ} → head_in (drop at s) ≡ Some (Variable i) → deeper ≡ max c.most d → VariableRoom n d i v
+  pub at_variable : {i v deeper : ℕ} → head_in (drop at s) ≡ Some (Variable i) → deeper ≡ max c.most d
+      → VariableRoom n d i v
       → Gauges n s at₀ d₀ part₀ room₀ c₀ (Some (at + 9)) (counts (c.nodes + 1) deeper (c.text + v))
   at_variable h e v = ends n s at₀ d₀ part₀ room₀ c₀ (now.onward (gauged-variable some now.ready h e v))
 

@@ -82,7 +82,8 @@ struct Counts {
 }
 
 // THE WALK from an offset where nothing need be a term: it tells the offset after the term there, if there is one, and
-// adds the term to the counts. It goes on as `write_part` does, but the room falls at every node: the height is bounded.
+// adds the term to the counts. It goes on as `write_part` does, but the room falls at every node, so the height is
+// bounded.
 fn gauge_part(
     notation: Notation,
     s: &[u8],

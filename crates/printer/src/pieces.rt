@@ -103,6 +103,7 @@ pub(crate) struct Style {
 }
 
 // IN EITHER NOTATION: a variable, a binder, the gap between two parts.
+// These stay matches on the notation: data by case, no step is picked.
 pub(crate) fn put_variable(out: &mut [u8], to: usize, style: Style, depth: u64, index: u64) -> usize
     requires { to + length (variable_of style depth index) ≤ greatest_number }
     ensures { Puts out.old to (variable_of style depth index) result out.new }

@@ -1,4 +1,5 @@
 // Putting text: each function puts bytes at a place of a lent slice and returns the place after them.
+// Slice and place stay two parameters: a rule of the project, under which the writer's methods are thin.
 ghost use Rattle.std.specs.Prelude.{cond, [], ◌∷◌, ◌+◌, ◌≤◌, ◌<◌, length, replicate};
 ghost use Rattle.calculus.specs.Bounds.{greatest_number};
 ghost use Rattle.calculus.proofs.Putting.{Puts};

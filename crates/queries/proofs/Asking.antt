@@ -12,7 +12,8 @@ use Rattle.term.specs.declared.Facts.{Facts}
 use Rattle.term.specs.declared.Refusal.{Refusal}
 use Rattle.term.proofs.Checking.{check-whole, check-refused, handed_on}
 
-module _ {A : Type 0} (ask : Term → A) (s : List ℕ) {r : Result Facts Refusal} (says : told r ≡ check_of most_nodes s) where
+module _ {A : Type 0} (ask : Term → A) (s : List ℕ) {r : Result Facts Refusal}
+    (says : told r ≡ check_of most_nodes s) where
   pub refused_alike : (q : Result A Refusal) {why : Refusal} → IsErrAnd q (λ y. y ≡ why) → r ≡ Err why
       → told q ≡ query_of ask s
   unfolding query_of
