@@ -1,4 +1,4 @@
--- HOW DOCUMENT 01 IS READ where its words leave a choice: the smallest inputs of docs/DECISIONS.md, by computation.
+-- HOW THE RULES ARE READ where their words leave a choice: the smallest inputs of docs/DECISIONS.md, by computation.
 use Prim.Native.Nat.{ℕ, zero, suc, ◌-◌, ◌^◌}
 use mathlib.Core.Path.{◌≡◌, refl}
 use mathlib.Core.List.{List, [], ◌∷◌, ◌++◌, map}

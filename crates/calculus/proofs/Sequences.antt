@@ -1,4 +1,4 @@
--- The grammar as a relation, in document 01's words, and that parsing gives just its terms.
+-- The grammar as a relation, in which a sequence holds groups and a group a sequence; parsing gives just its terms.
 use Prim.Native.Nat.{ℕ, zero, suc, ◌≤◌, ◌<◌}
 use mathlib.Core.Path.{◌≡◌, refl, ◌∙◌}
 use mathlib.Core.Logic.{◌↔◌}

@@ -1,4 +1,4 @@
--- The bounds of document 01, by name.
+-- The bounds, by name.
 use Rattle.std.specs.Prelude.{ℕ, ◌-◌, ◌^◌}
 
 -- a cap is 1 to this many nodes; queries and printing hold a term to it

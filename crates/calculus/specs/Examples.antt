@@ -1,4 +1,4 @@
--- THE SIXTEEN EXAMPLES of document 01, P1 to P16: calls of entry points and what they answer and leave.
+-- THE SIXTEEN EXAMPLES, P1 to P16: calls of entry points and what they answer and leave.
 use Rattle.std.specs.Prelude.{ℕ, ◌-◌, List, [], ◌∷◌, ◌++◌, length, replicate}
 use Prim.Native.String.{String}
 use Rattle.calculus.specs.Term.{Term, var, lam, app}

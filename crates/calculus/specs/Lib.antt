@@ -1,4 +1,4 @@
--- The definitions of document 01: what a reader must believe. Nothing is assumed and nothing is proved here.
+-- The rules of docs/RULES.md as definitions: what a reader must believe. Nothing is assumed and nothing is proved here.
 pub mod Numbers
 pub mod Bounds
 pub mod Term

@@ -1,4 +1,4 @@
--- READING TEXT: the term of any bytes, or the refusal, in document 01's sequence.
+-- READING TEXT: the term of any bytes, or the refusal that comes first: 3, 4, 5, then 6 or 7, then 8, 7, 9.
 use Rattle.std.specs.Prelude.{ℕ, List, [], leb, length}
 use Rattle.std.proofs.Math.Option.{Option, none, some}
 use Rattle.calculus.specs.Term.{Term}

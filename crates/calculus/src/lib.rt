@@ -1,4 +1,4 @@
-// The bounds of document 01 as constants; all else of this crate is definitions (specs/) and laws about them (proofs/).
+// The bounds of docs/RULES.md as constants; all else of this crate is definitions (specs/) and laws (proofs/).
 #![tactic(auto)]
 
 // The most nodes that a cap may state, and that a query or a printer takes.

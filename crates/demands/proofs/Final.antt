@@ -1,4 +1,4 @@
--- DEMAND 3, FINISHED IS FINAL, of the outcomes of `reduce` itself.
+-- FINISHED IS FINAL, of the outcomes of `reduce` itself.
 use Prim.Native.Nat.{ℕ, ◌≤◌}
 use mathlib.Core.Path.{◌≡◌, refl, sym, ap, ◌∙◌}
 use mathlib.Core.Bool.{true, ◌&&◌}

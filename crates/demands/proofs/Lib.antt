@@ -1,2 +1,2 @@
--- The demands, of the functions' own outcomes.
+-- Finished is final, of the functions' own outcomes.
 pub mod Final

@@ -90,7 +90,7 @@ fn contract_levels(
     contract_within::<LEVELS>(cap, limit, s, out, store)
 }
 
-// All that comes after 1 and 2: the input's refusals, then the steps.
+// All that comes after OutsideBounds and TooLittleRoom: the input's refusals, then the steps.
 fn work(cap: usize, limit: u64, s: &[u8], out: &mut [u8], store: &mut [u64]) -> Result<Run, Stopped>
     requires { Lent cap out.old store.old }
     ensures { Works (stored_run (run_on (checked cap s.now) (eta limit)) out.old)
@@ -100,7 +100,7 @@ fn work(cap: usize, limit: u64, s: &[u8], out: &mut [u8], store: &mut [u64]) -> 
     Ok(contract_levels(cap, limit, s, out, store, facts.height))
 }
 
-// 1, 2, then the work, after which the room is cleared. Limit 0 is none.
+// OutsideBounds, TooLittleRoom, then the work, after which the room is cleared. Limit 0 is none.
 pub fn eta(limit: u64, cap: u64, s: &[u8], out: &mut [u8], room: &mut [u64]) -> Result<Run, Stopped>
     ensures { (run_told result, out.new, room.new)
         ≡ eta_of limit cap s.now out.old room.old }

@@ -1,4 +1,4 @@
--- DEMAND 3, FINISHED IS FINAL, over the outcomes of reduce on bytes, with whatever limits, caps and buffers.
+-- FINISHED IS FINAL, over the outcomes of reduce on bytes, with whatever limits, caps and buffers.
 use Prim.Native.Nat.{ℕ, ◌≤◌}
 use mathlib.Core.Path.{◌≡◌, refl, ap, ap₂, sym, ◌∙◌}
 use mathlib.Core.Bool.{true, ◌&&◌}

@@ -1,4 +1,4 @@
--- The outcome of reduce, and of eta, is one that document 01's words allow; for reduce it is the only one.
+-- The outcome of reduce, and of eta, is one that its steps allow; for reduce it is the only one.
 use Prim.Native.Nat.{ℕ}
 use mathlib.Core.Path.{◌≡◌, refl}
 use mathlib.Core.Bool.{Bool, true, false, ◌&&◌}

@@ -1,4 +1,4 @@
--- DEMAND 3 OVER SCRIPTS: what the program answers to one text, by whatever orders and limits.
+-- FINISHED IS FINAL, OVER SCRIPTS: what the program answers to one text, by whatever orders and limits.
 use Prim.Native.Nat.{ℕ, ◌≤◌}
 use mathlib.Core.Path.{◌≡◌, refl, ap, sym, ◌∙◌}
 use mathlib.Core.Bool.{Bool, true, false, cond}

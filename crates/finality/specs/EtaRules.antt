@@ -1,4 +1,4 @@
--- Eta's sequence as rules, in 01's words: no tries are counted.
+-- Eta's sequence as rules: no tries are counted.
 use Rattle.std.specs.Prelude.{ℕ, suc, ◌≡◌, Bool, true, false}
 use Rattle.std.proofs.Math.Option.{none, some}
 use Rattle.calculus.specs.Term.{Term, var, lam, app}

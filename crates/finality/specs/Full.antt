@@ -1,4 +1,4 @@
--- The orders that demand 3 speaks of: they reduce to normal forms.
+-- The orders that never finish one input with different terms: they reduce to normal forms.
 use Rattle.calculus.specs.Orders.{Order, APP, NOR, HNO, HAP}
 
 pub data Full : Order → Type 0 where

@@ -1,4 +1,4 @@
-// The program of document 01: a first line and a text from standard input, the answer to standard output.
+// The program: a first line and a text from standard input, the answer to standard output.
 #![tactic(auto)]
 
 use std::io;

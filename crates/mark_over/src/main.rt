@@ -1,4 +1,4 @@
-// The program of document 01, run on 65,537 bytes, which are one too many.
+// The program `mark`, run on 65,537 bytes, which are one too many.
 #![tactic(auto)]
 
 use std::io;

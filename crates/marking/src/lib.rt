@@ -76,7 +76,7 @@ fn reduce(
     }
 }
 
-// What the first line asks for, of the text after it: 1 for the limit comes before the text is read.
+// What the first line asks for, of the text after it: a limit out of bounds comes before the text is read.
 fn do_job(job: Job, out: &mut [u8]) -> usize
     requires { most_output ≤ length out.old }
     ensures { Puts out.old 0 (done (job_of job.entry)) result out.new }
@@ -98,7 +98,7 @@ fn do_job(job: Job, out: &mut [u8]) -> usize
     }
 }
 
-// Too many bytes are 3, before the first line is looked at; a malformed first line is 1.
+// Too many bytes are TextTooLong, before the first line is looked at; a malformed one is OutsideBounds.
 #[tactic(auto, using(crate::proofs::Programs::long_told))]
 pub fn mark(input: &[u8], out: &mut [u8; MOST_OUTPUT]) -> usize
     ensures lays { Lays (program_of input.now) out.old result out.new }

@@ -6,7 +6,7 @@ ghost use Rattle.nodes.specs.Answers.{granting};
 use calculus::{MOST_NODES, OUTPUT_PER_NODE, ROOM_PER_NODE};
 use term::Refusal;
 
-// 1, then 2, from the cap and the lengths of the output and the room; or the cap as a length.
+// OutsideBounds, then TooLittleRoom, from the cap and the lengths of the output and the room; or the cap as a length.
 #[tactic(auto, using(crate::proofs::Granting::granting_tests))]
 pub fn grant(cap: u64, output: usize, room: usize) -> Result<usize, Refusal>
     ensures { told result ≡ granting cap output room }

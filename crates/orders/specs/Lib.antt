@@ -1,2 +1,2 @@
--- Which order of document 01 each case of the code's `Order` is.
+-- Which of the seven orders each case of the code's `Order` is.
 pub mod Orders

@@ -1,4 +1,4 @@
--- Which order of document 01 each case of the code's `Order` is, and its number.
+-- Which order of the definitions each case of the code's `Order` is, and its number.
 use Rattle.std.specs.Prelude.{ℕ, ◌≤◌, ◌≡◌, Result, MatchResult}
 use Rattle.calculus.specs.Orders as calculus
 use Rattle.term.specs.declared.Refusal.{Refusal}

@@ -29,7 +29,7 @@ use term::{Notation, Refusal};
 use words::Cursor;
 use words::text::Text;
 
-// 8, 7, then 9, of what was read; the bytes of a term that is within the bounds.
+// EmptyExpression, TooHigh, then TooManyNodes, of what was read; the bytes of a term that is within the bounds.
 #[tactic(auto, using(crate::proofs::Saving::saving))]
 fn save(store: &[u64], cap: usize, read: Built, out: &mut [u8]) -> Result<usize, Refusal>
     requires { Storable store.now cap read out.old }
@@ -49,7 +49,7 @@ fn save(store: &[u64], cap: usize, read: Built, out: &mut [u8]) -> Result<usize,
     }
 }
 
-// The walk's 6 or 7, then 8, 7 and 9, of a text whose words are valid.
+// The walk's refusals, then EmptyExpression, TooHigh and TooManyNodes, of a text whose words are valid.
 fn build(
     notation: Notation,
     cap: usize,
@@ -67,7 +67,7 @@ fn build(
     save(store, cap, went.read, out)
 }
 
-// All that comes after 1 and 2.
+// All that comes after OutsideBounds and TooLittleRoom.
 fn read(
     notation: Notation,
     cap: usize,
@@ -83,7 +83,7 @@ fn read(
     build(notation, cap, clean, out, store)
 }
 
-// 1, 2, then the work, after which the room is cleared.
+// OutsideBounds, TooLittleRoom, then the work, after which the room is cleared.
 pub fn parse(
     notation: Notation,
     cap: u64,

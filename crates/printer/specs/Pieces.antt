@@ -11,7 +11,7 @@ unfoldable pub figures : (count : ℕ) → ℕ → List ℕ
 figures zero n = []
 figures (suc k) n = figure (n / 16 ^ k % 16) ∷ figures k n
 
--- the layout of document 01 for a style
+-- the layout for a style: its notation's, with the most abstractions on a path
 abbrev pub layout_of : Style → Layout ℕ
 layout_of w = in_characters (notation_of w.notation) w.most
 

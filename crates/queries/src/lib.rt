@@ -1,4 +1,4 @@
-// The queries of a whole term: each takes any bytes, and answers or refuses by 10, then 7, then 9.
+// The queries of a whole term: each takes any bytes, and answers or refuses by NotATerm, TooHigh, then TooManyNodes.
 #![tactic(auto)]
 
 ghost use Rattle.std.specs.Prelude.{◌≡◌};

@@ -19,7 +19,7 @@ use substitution::put_in;
 use substitution::weighing::weigh;
 use term::Refusal;
 
-// 12, 7, then 9, of the contraction of an abstraction with this body; its bytes, if it is within the bounds.
+// IndexTooGreat, TooHigh, then TooManyNodes, of the contraction with this body; its bytes, if it is within the bounds.
 #[tactic(auto, using(crate::proofs::Contracting::contractions))]
 fn contract(
     cap: usize,
@@ -64,7 +64,7 @@ fn work(cap: usize, s: &[u8], u: &[u8], out: &mut [u8], store: &mut [u64]) -> Re
     Err(Refusal::NotAbs)
 }
 
-// 1, 2, then the work, after which the room is cleared.
+// OutsideBounds, TooLittleRoom, then the work, after which the room is cleared.
 pub fn apply(
     cap: u64,
     s: &[u8],

@@ -41,7 +41,7 @@ fn step_on(
     })
 }
 
-// All that comes after 1 and 2: the input's refusals, then the steps.
+// All that comes after OutsideBounds and TooLittleRoom: the input's refusals, then the steps.
 fn work(
     cap: usize,
     order: Order,
@@ -65,7 +65,7 @@ pub fn allowed(limit: u64) -> bool
     (1..=MOST_STEPS).contains(&limit)
 }
 
-// 1, 2, then the work, after which the room is cleared.
+// OutsideBounds, TooLittleRoom, then the work, after which the room is cleared.
 pub fn reduce(
     order: Order,
     limit: u64,

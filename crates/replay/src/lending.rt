@@ -42,7 +42,7 @@ pub(crate) fn written(call: Call, answer: Answer, out: &[u8]) -> &[u8] {
     out.get(..answer.value as usize).unwrap_or_default()
 }
 
-// The numbers of room that are to be zero: none after 1 and 2, nor where no room is lent.
+// The numbers of room that are to be zero: none after the refusals 1 and 2, nor where no room is lent.
 pub(crate) fn cleared(call: Call, refusal: u64, cap: u64) -> usize {
     if matches!(refusal, 1 | 2) || !call.works() || MOST_NODES < cap {
         return 0;

@@ -99,8 +99,8 @@ fn bursts(room: &[u64], argument: usize, deepest: u64) -> bool
     overflows(room, argument, deepest - 1, 0)
 }
 
-// What a contraction gives: how often the argument is put in, whether an index grows past the greatest number (12), the
-// height (7), the nodes (9).
+// What a contraction gives: how often the argument is put in, whether an index grows past the greatest number, the
+// height, the nodes.
 #[derive(Clone, Copy)]
 pub struct Weight {
     pub copies: u64,

@@ -37,7 +37,7 @@ impl TryFrom<u64> for Notation {
     }
 }
 
-// The thirteen refusals of document 01, which all crates share.
+// The thirteen refusals, which all crates share; their numbers are in docs/RULES.md.
 #[derive(Clone, Copy, Debug, PartialEq, Eq)]
 pub enum Refusal {
     OutsideBounds,
@@ -235,7 +235,7 @@ fn survey_at(s: &[u8], at: usize, depth: u64, room: u64) -> Option<(Facts, usize
     }
 }
 
-// Refusal 10, then 7, then 9 against a cap, which may be any number; or the facts of the whole term.
+// NotATerm, TooHigh, then TooManyNodes against a cap, which may be any number; or the facts of the whole term.
 pub fn check(cap: u64, s: &[u8]) -> Result<Facts, Refusal>
     ensures { told result ≡ check_of cap s.now }
 {
