@@ -158,12 +158,6 @@ fn is_free(index: u64, depth: u64) -> bool
     index < 1 || depth < index
 }
 
-pub fn either(a: bool, b: bool) -> bool
-    ensures { result ≡ a || b }
-{
-    a || b
-}
-
 // The index less the depth, floored at 0.
 fn above(index: u64, depth: u64) -> u64
     ensures { result ≡ index - depth }
