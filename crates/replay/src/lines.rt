@@ -38,9 +38,9 @@ pub(crate) fn digit(b: u8) -> Option<u64> {
     }
 }
 
-// The number that digits of a base say, if they say a 64-bit number.
-fn number(digits: &[u8], base: u64) -> Option<u64> {
-    let mut value: u64 = 0;
+// The number whose first digits are read once these are too, if it is a 64-bit number.
+fn read_on(read: u64, digits: &[u8], base: u64) -> Option<u64> {
+    let mut value = read;
     for &b in digits {
         let last = digit(b)?;
         if base <= last {
@@ -53,9 +53,17 @@ fn number(digits: &[u8], base: u64) -> Option<u64> {
 
 // A word that says no such number is taken for 0.
 pub(crate) fn decimal(digits: &[u8]) -> u64 {
-    number(digits, 10).unwrap_or(0)
+    read_on(0, digits, 10).unwrap_or(0)
 }
 
 pub(crate) fn hex(digits: &[u8]) -> u64 {
-    number(digits, 16).unwrap_or(0)
+    read_on(0, digits, 16).unwrap_or(0)
+}
+
+// The same of digits in two pieces.
+pub(crate) fn hex_across(first: &[u8], second: &[u8]) -> u64 {
+    match read_on(0, first, 16) {
+        Some(read) => read_on(read, second, 16).unwrap_or(0),
+        None => 0,
+    }
 }

@@ -5,7 +5,7 @@
 ghost use Rattle.std.specs.Prelude.{◌≤◌, length};
 
 use crate::asking::{Asked, Call};
-use crate::lines::{cut, digit, hex, put};
+use crate::lines::{cut, digit, hex, hex_across, put};
 
 #[derive(Clone, Copy)]
 pub(crate) struct Inputs<'a> {
@@ -29,22 +29,25 @@ fn put_variable(free: &mut [u8], to: usize, index: u64) -> usize
     end
 }
 
-// The index of a variable in brackets, and what follows them; 0 where they are not closed.
-fn bracketed(marks: &[u8]) -> (u64, &[u8])
+// The index of a variable in brackets, and what follows them. What the line does not close goes on behind it, with what
+// an earlier line left there.
+fn bracketed<'a>(marks: &'a [u8], behind: &[u8]) -> (u64, &'a [u8])
     ensures { length result.1.now ≤ length marks.now }
 {
     match marks.iter().position(|&b| b == b']') {
         Some(at) => (hex(&marks[..at]), &marks[at + 1..]),
-        None => (0, &[]),
+        None => (hex_across(marks, cut(behind, b']').0), &[]),
     }
 }
 
-// The bytes of a term's marks, as far as there is room for them, and how many they are. Any other mark is a variable.
-fn put_term(free: &mut [u8], marks: &[u8]) -> usize
+// The bytes of a term's marks, put from a place on as far as there is room, and where they end. Any other mark is a
+// variable. Where the line goes on after the marks, a bracket that they do not close has no index.
+fn put_term(free: &mut [u8], from: usize, marks: &[u8], goes_on: bool) -> usize
+    requires { from ≤ length free.old }
     ensures { result ≤ length free.new }
 {
     let mut left = marks;
-    let mut to: usize = 0;
+    let mut to = from;
     while let Some((&mark, after)) = left.split_first() {
         left = after;
         match mark {
@@ -55,7 +58,8 @@ fn put_term(free: &mut [u8], marks: &[u8]) -> usize
                 to = put(free, to, 3);
             }
             b'[' => {
-                let (index, after) = bracketed(left);
+                let behind = if goes_on { b" ".as_slice() } else { &free[..] };
+                let (index, after) = bracketed(left, behind);
                 to = put_variable(free, to, index);
                 left = after;
             }
@@ -67,17 +71,7 @@ fn put_term(free: &mut [u8], marks: &[u8]) -> usize
     to
 }
 
-// The bytes that a word writes, put first in the free room unless they are the word's own, and the room left.
-fn coded<'a>(word: &'a [u8], free: &'a mut [u8]) -> (&'a [u8], &'a mut [u8]) {
-    if let Some(bytes) = word.strip_prefix(b"=") {
-        return (bytes, free);
-    }
-    let length = put_term(free, word);
-    let (term, left) = free.split_at_mut(length);
-    (term, left)
-}
-
-// A text is the rest of the line; of two inputs the second is.
+// A text is the rest of the line; of two inputs the second is. A word that begins with `=` has its bytes after it.
 pub(crate) fn read<'a>(asked: Asked<'a>, free: &'a mut [u8]) -> Inputs<'a> {
     if asked.call == Call::Parse {
         return Inputs {
@@ -86,7 +80,18 @@ pub(crate) fn read<'a>(asked: Asked<'a>, free: &'a mut [u8]) -> Inputs<'a> {
         };
     }
     let (first, second) = cut(asked.inputs, b' ');
-    let (first, left) = coded(first, free);
-    let (second, _) = coded(second, left);
-    Inputs { first, second }
+    let own_first = first.strip_prefix(b"=");
+    let own_second = second.strip_prefix(b"=");
+    let middle = match own_first {
+        None => put_term(free, 0, first, first.len() < asked.inputs.len()),
+        Some(_) => 0,
+    };
+    let end = match own_second {
+        None => put_term(free, middle, second, false),
+        Some(_) => middle,
+    };
+    Inputs {
+        first: own_first.unwrap_or(&free[..middle]),
+        second: own_second.unwrap_or(&free[middle..end]),
+    }
 }
