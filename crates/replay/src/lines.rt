@@ -4,7 +4,7 @@ ghost use Rattle.std.specs.Prelude.{◌≤◌, length};
 // Writes a byte and moves on; at the end of the buffer it does neither.
 pub(crate) fn put(buf: &mut [u8], at: usize, b: u8) -> usize
     requires { at ≤ length buf.old }
-    ensures { result ≤ length buf.new }
+    ensures { (at ≤ result) × (result ≤ length buf.new) }
 {
     if at < buf.len() {
         buf[at] = b;

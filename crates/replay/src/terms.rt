@@ -18,7 +18,7 @@ const VARIABLE_BYTES: usize = 9;
 // A variable, if there is room for its bytes.
 fn put_variable(free: &mut [u8], to: usize, index: u64) -> usize
     requires { to ≤ length free.old }
-    ensures { result ≤ length free.new }
+    ensures { (to ≤ result) × (result ≤ length free.new) }
 {
     let end = to + VARIABLE_BYTES;
     if free.len() < end {
@@ -30,21 +30,22 @@ fn put_variable(free: &mut [u8], to: usize, index: u64) -> usize
 }
 
 // The index of a variable in brackets, and what follows them. What the line does not close goes on behind it, with what
-// an earlier line left there.
-fn bracketed<'a>(marks: &'a [u8], behind: &[u8]) -> (u64, &'a [u8])
+// an earlier line left there, unless a space is in between.
+fn bracketed<'a>(marks: &'a [u8], behind: &[u8], spaced: bool) -> (u64, &'a [u8])
     ensures { length result.1.now ≤ length marks.now }
 {
     match marks.iter().position(|&b| b == b']') {
         Some(at) => (hex(&marks[..at]), &marks[at + 1..]),
+        None if spaced => (0, &[]),
         None => (hex_across(marks, cut(behind, b']').0), &[]),
     }
 }
 
 // The bytes of a term's marks, put from a place on as far as there is room, and where they end. Any other mark is a
-// variable. Where the line goes on after the marks, a bracket that they do not close has no index.
-fn put_term(free: &mut [u8], from: usize, marks: &[u8], goes_on: bool) -> usize
+// variable.
+fn put_term(free: &mut [u8], from: usize, marks: &[u8], spaced: bool) -> usize
     requires { from ≤ length free.old }
-    ensures { result ≤ length free.new }
+    ensures { (from ≤ result) × (result ≤ length free.new) }
 {
     let mut left = marks;
     let mut to = from;
@@ -58,8 +59,7 @@ fn put_term(free: &mut [u8], from: usize, marks: &[u8], goes_on: bool) -> usize
                 to = put(free, to, 3);
             }
             b'[' => {
-                let behind = if goes_on { b" ".as_slice() } else { &free[..] };
-                let (index, after) = bracketed(left, behind);
+                let (index, after) = bracketed(left, free, spaced);
                 to = put_variable(free, to, index);
                 left = after;
             }

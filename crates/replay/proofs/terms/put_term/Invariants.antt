@@ -3,7 +3,7 @@ use Rattle.std.proofs.Common.{length, ◌≤◌}
 use Rattle.replay.proofs.terms.put_term.Given as goal
 
 abbrev pub invariant-loop-mark : goal.invariant-loop-mark
-invariant-loop-mark l = l.to ≤ length l.free
+invariant-loop-mark l = (l.initial.to ≤ l.to) × (l.to ≤ length l.free)
 
 abbrev pub decreases-loop-mark : goal.decreases-loop-mark
 decreases-loop-mark l = length l.left
