@@ -15,8 +15,9 @@ use orders::Order;
 use term::Notation;
 
 // An answer in numbers. What a field is not said to hold, it holds 0.
+// Refusal, end and truths stay numbers, as notation and order below: the C interface.
 #[repr(C)]
-#[derive(Clone, Copy)]
+#[derive(Clone, Copy, Debug, PartialEq, Eq)]
 pub struct Answer {
     // 0, or the number of the refusal
     pub refusal: u64,
@@ -32,48 +33,58 @@ pub struct Answer {
     pub code: u64,
 }
 
+// The twelve stay one function each, with buffers side by side: the C interface.
+
+// How many variables, abstractions and applications there are, in `value`, as each number below.
 pub fn copperjangle_nodes(term: &[u8]) -> Answer
     ensures { result ≡ number_in_numbers (nodes_of term.now) }
 {
     Answer::from(queries::nodes(term))
 }
 
+// One for a variable, and one more than the taller part for any other node.
 pub fn copperjangle_height(term: &[u8]) -> Answer
     ensures { result ≡ number_in_numbers (height_of term.now) }
 {
     Answer::from(queries::height(term))
 }
 
+// The most abstractions on a path.
 pub fn copperjangle_max_depth(term: &[u8]) -> Answer
     ensures { result ≡ number_in_numbers (max_depth_of term.now) }
 {
     Answer::from(queries::max_depth(term))
 }
 
+// The greatest of index minus depth, floored at 0.
 pub fn copperjangle_max_free_index(term: &[u8]) -> Answer
     ensures { result ≡ number_in_numbers (max_free_index_of term.now) }
 {
     Answer::from(queries::max_free_index(term))
 }
 
+// 1 if some index is 0 or free, else 0.
 pub fn copperjangle_has_free_variables(term: &[u8]) -> Answer
     ensures { result ≡ truth_in_numbers (has_free_variables_of term.now) }
 {
     Answer::from(queries::has_free_variables(term))
 }
 
+// 1 if every index is bound, else 0.
 pub fn copperjangle_is_supercombinator(term: &[u8]) -> Answer
     ensures { result ≡ truth_in_numbers (is_supercombinator_of term.now) }
 {
     Answer::from(queries::is_supercombinator(term))
 }
 
+// 1 if two terms are the same, else 0; the first input's refusals come before the second's.
 pub fn copperjangle_equality(first: &[u8], second: &[u8]) -> Answer
     ensures { result ≡ truth_in_numbers (equality_of first.now second.now) }
 {
     Answer::from(queries::equality(first, second))
 }
 
+// The text of a term in the notation of this number, and its length; an unknown number is refused by 1.
 pub fn copperjangle_print(notation: u64, term: &[u8], out: &mut [u8]) -> Answer
     ensures { (result, out.new) ≡ print_numbered notation term.now out.old }
 {
@@ -83,6 +94,7 @@ pub fn copperjangle_print(notation: u64, term: &[u8], out: &mut [u8]) -> Answer
     }
 }
 
+// The term that a text says in the notation of this number, and its length; an unknown number is refused by 1.
 pub fn copperjangle_parse(
     notation: u64,
     cap: u64,
@@ -99,6 +111,7 @@ pub fn copperjangle_parse(
     }
 }
 
+// The body of an abstraction with the argument put in, and its length.
 pub fn copperjangle_apply(
     cap: u64,
     abstraction: &[u8],
@@ -113,6 +126,7 @@ pub fn copperjangle_apply(
     Answer::from(reduction::apply(cap, abstraction, argument, out, room))
 }
 
+// Eta steps until none is left, or as many as the limit where it is not 0: the term reached, and its length.
 pub fn copperjangle_eta(
     limit: u64,
     cap: u64,
@@ -126,6 +140,8 @@ pub fn copperjangle_eta(
     Answer::from(eta::eta(limit, cap, term, out, room))
 }
 
+// Steps of the order of this number, at most the limit: the term reached, and its length. An unknown number is refused
+// by 1.
 pub fn copperjangle_reduce(
     order: u64,
     limit: u64,

@@ -10,7 +10,7 @@ use nodes::runs::{End, Run, Stopped};
 use term::Refusal;
 
 impl Answer {
-    // What a run reached after so many steps; of no run, 0 and 0.
+    // What a run reached after so many steps. Where there was no run, `finished` and `steps` are 0.
     fn reached(finished: u64, steps: u64, value: u64) -> Answer
         ensures { result ≡ reached_in_numbers finished steps value }
     {
@@ -31,7 +31,8 @@ impl Answer {
         Answer::reached(0, 0, value)
     }
 
-    // A refusal after so many steps, with what it returns.
+    // A refusal after so many steps, with what it returns. Each case has a line of its own: an edit that must be refused,
+    // `seven_with_a_value`, is planted at one of them.
     pub(crate) fn refused(steps: u64, why: Refusal) -> Answer
         ensures { result ≡ refused_in_numbers steps (refusal_of why) }
     {
@@ -83,6 +84,7 @@ impl From<Refusal> for Answer {
     }
 }
 
+// A number, or why there is none. The three below stay apart: `u64` has no `From<usize>`, so no one bound fits them.
 impl From<Result<u64, Refusal>> for Answer {
     ghost from_gives = { λ asked answer. answer ≡ number_in_numbers (told asked) };
 
@@ -94,7 +96,7 @@ impl From<Result<u64, Refusal>> for Answer {
     }
 }
 
-// A length in the output.
+// The length of what stands in the output, or a refusal.
 impl From<Result<usize, Refusal>> for Answer {
     ghost from_gives = { λ asked answer. answer ≡ number_in_numbers (told asked) };
 
@@ -106,6 +108,7 @@ impl From<Result<usize, Refusal>> for Answer {
     }
 }
 
+// A truth, 1 for yes and 0 for no, or a refusal.
 impl From<Result<bool, Refusal>> for Answer {
     ghost from_gives = { λ asked answer. answer ≡ truth_in_numbers (told asked) };
 
@@ -117,7 +120,7 @@ impl From<Result<bool, Refusal>> for Answer {
     }
 }
 
-// How a run of reduce or eta ended.
+// How a run of reduce or eta ended: what it reached, or what refused it after how many steps.
 impl From<Result<Run, Stopped>> for Answer {
     ghost from_gives = { λ ended answer. answer ≡ run_in_numbers (run_told ended) };
 

@@ -10,6 +10,9 @@ ghost use Rattle.copperjangle.specs.Exports.{parse_numbered, print_numbered, red
 
 use copperjangle::Answer;
 
+// The twelve stay one function each, with buffers side by side: the C interface.
+
+// How many variables, abstractions and applications there are, in `value`, as each number below.
 #[unsafe(no_mangle)]
 pub extern "C" fn copperjangle_nodes(term: &[u8]) -> Answer
     ensures { result ≡ number_in_numbers (nodes_of term.now) }
@@ -17,6 +20,7 @@ pub extern "C" fn copperjangle_nodes(term: &[u8]) -> Answer
     copperjangle::copperjangle_nodes(term)
 }
 
+// One for a variable, and one more than the taller part for any other node.
 #[unsafe(no_mangle)]
 pub extern "C" fn copperjangle_height(term: &[u8]) -> Answer
     ensures { result ≡ number_in_numbers (height_of term.now) }
@@ -24,6 +28,7 @@ pub extern "C" fn copperjangle_height(term: &[u8]) -> Answer
     copperjangle::copperjangle_height(term)
 }
 
+// The most abstractions on a path.
 #[unsafe(no_mangle)]
 pub extern "C" fn copperjangle_max_depth(term: &[u8]) -> Answer
     ensures { result ≡ number_in_numbers (max_depth_of term.now) }
@@ -31,6 +36,7 @@ pub extern "C" fn copperjangle_max_depth(term: &[u8]) -> Answer
     copperjangle::copperjangle_max_depth(term)
 }
 
+// The greatest of index minus depth, floored at 0.
 #[unsafe(no_mangle)]
 pub extern "C" fn copperjangle_max_free_index(term: &[u8]) -> Answer
     ensures { result ≡ number_in_numbers (max_free_index_of term.now) }
@@ -38,6 +44,7 @@ pub extern "C" fn copperjangle_max_free_index(term: &[u8]) -> Answer
     copperjangle::copperjangle_max_free_index(term)
 }
 
+// 1 if some index is 0 or free, else 0.
 #[unsafe(no_mangle)]
 pub extern "C" fn copperjangle_has_free_variables(term: &[u8]) -> Answer
     ensures { result ≡ truth_in_numbers (has_free_variables_of term.now) }
@@ -45,6 +52,7 @@ pub extern "C" fn copperjangle_has_free_variables(term: &[u8]) -> Answer
     copperjangle::copperjangle_has_free_variables(term)
 }
 
+// 1 if every index is bound, else 0.
 #[unsafe(no_mangle)]
 pub extern "C" fn copperjangle_is_supercombinator(term: &[u8]) -> Answer
     ensures { result ≡ truth_in_numbers (is_supercombinator_of term.now) }
@@ -52,6 +60,7 @@ pub extern "C" fn copperjangle_is_supercombinator(term: &[u8]) -> Answer
     copperjangle::copperjangle_is_supercombinator(term)
 }
 
+// 1 if two terms are the same, else 0; the first input's refusals come before the second's.
 #[unsafe(no_mangle)]
 pub extern "C" fn copperjangle_equality(first: &[u8], second: &[u8]) -> Answer
     ensures { result ≡ truth_in_numbers (equality_of first.now second.now) }
@@ -59,6 +68,7 @@ pub extern "C" fn copperjangle_equality(first: &[u8], second: &[u8]) -> Answer
     copperjangle::copperjangle_equality(first, second)
 }
 
+// The text of a term in the notation of this number, and its length; an unknown number is refused by 1.
 #[unsafe(no_mangle)]
 pub extern "C" fn copperjangle_print(notation: u64, term: &[u8], out: &mut [u8]) -> Answer
     ensures { (result, out.new) ≡ print_numbered notation term.now out.old }
@@ -66,6 +76,7 @@ pub extern "C" fn copperjangle_print(notation: u64, term: &[u8], out: &mut [u8])
     copperjangle::copperjangle_print(notation, term, out)
 }
 
+// The term that a text says in the notation of this number, and its length; an unknown number is refused by 1.
 #[unsafe(no_mangle)]
 pub extern "C" fn copperjangle_parse(
     notation: u64,
@@ -80,6 +91,7 @@ pub extern "C" fn copperjangle_parse(
     copperjangle::copperjangle_parse(notation, cap, text, out, room)
 }
 
+// The body of an abstraction with the argument put in, and its length.
 #[unsafe(no_mangle)]
 pub extern "C" fn copperjangle_apply(
     cap: u64,
@@ -95,6 +107,7 @@ pub extern "C" fn copperjangle_apply(
     copperjangle::copperjangle_apply(cap, abstraction, argument, out, room)
 }
 
+// Eta steps until none is left, or as many as the limit where it is not 0: the term reached, and its length.
 #[unsafe(no_mangle)]
 pub extern "C" fn copperjangle_eta(
     limit: u64,
@@ -109,6 +122,8 @@ pub extern "C" fn copperjangle_eta(
     copperjangle::copperjangle_eta(limit, cap, term, out, room)
 }
 
+// Steps of the order of this number, at most the limit: the term reached, and its length. An unknown number is refused
+// by 1.
 #[unsafe(no_mangle)]
 pub extern "C" fn copperjangle_reduce(
     order: u64,
