@@ -8,6 +8,7 @@ ghost use Rattle.orders.specs.Orders.{order_of, Numbered};
 
 use term::Refusal;
 
+// Each by its name in docs/RULES.md; the numbers 0 to 6 stand in this order.
 #[derive(Clone, Copy, Debug, PartialEq, Eq)]
 pub enum Order {
     NOR,
@@ -19,7 +20,7 @@ pub enum Order {
     HAP,
 }
 
-// An order by its number; a number that no order has is refused by 1.
+// An order by its number; a number that no order has is refused by OutsideBounds.
 impl TryFrom<u64> for Order {
     type Error = Refusal;
 
@@ -52,7 +53,7 @@ impl Order {
         }
     }
 
-    // Whether the argument is reduced before it is put.
+    // Whether the argument is reduced before it is put. It and the two below stay apart: other sets, alike by text only.
     pub fn is_eager(self) -> bool
         ensures { result ≡ traits.eager (order_of self) }
     {

@@ -10,6 +10,7 @@ use calculus::{MOST_HEIGHT, MOST_NODES, OUTPUT_PER_NODE};
 use term::{Head, Notation};
 
 // THE PIECES, each in at least as many bytes as it takes.
+// The three matches on the notation stay: data by case, no step is picked.
 fn index_room(index: u64) -> usize
     ensures { (length (index_text index) ≤ result) × (result ≤ 18) }
 {
@@ -83,7 +84,8 @@ struct Counts {
 
 // THE WALK from an offset where nothing need be a term: it tells the offset after the term there, if there is one, and
 // adds the term to the counts. It goes on as `write_part` does, but the room falls at every node, so the height is
-// bounded.
+// bounded. Its parameters stay apart: speed, structs that go through memory at every call
+// cost the engine much.
 fn gauge_part(
     notation: Notation,
     s: &[u8],
@@ -126,8 +128,8 @@ fn gauge_part(
 // What one walk knows of a whole term within the bounds: its most abstractions on a path and room enough for its text.
 #[derive(Clone, Copy, Debug, PartialEq, Eq)]
 pub(crate) struct Gauge {
-    pub most: u64,
-    pub plenty: usize,
+    pub(crate) most: u64,
+    pub(crate) plenty: usize,
 }
 
 pub(crate) fn gauge_whole(notation: Notation, s: &[u8]) -> Option<Gauge>

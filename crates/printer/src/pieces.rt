@@ -11,7 +11,7 @@ use calculus::GREATEST_NUMBER;
 use term::Notation;
 
 // DE BRUIJN: the digit 0 to 9, then A to F, seven characters further on. Digits are as good as random, so there is no
-// branch on them.
+// branch on them. Hex stays written by hand: a rule of the project (docs/RULES.md, Forms of the code, Digits).
 fn put_figure(out: &mut [u8], to: usize, digit: u64) -> usize
     requires digit_bound { digit < 16 }
     requires to_lt_greatest_number { to < greatest_number }
@@ -96,7 +96,7 @@ fn put_named(out: &mut [u8], to: usize, most: u64, depth: u64, index: u64) -> us
 }
 
 // How a term is written: in which notation, and with how many abstractions on a path at most.
-#[derive(Clone, Copy)]
+#[derive(Clone, Copy, Debug, PartialEq, Eq)]
 pub(crate) struct Style {
     pub notation: Notation,
     pub most: u64,

@@ -1,5 +1,5 @@
 // Putting text: each function puts bytes at a place of a lent slice and returns the place after them.
-// Slice and place stay two parameters: a rule of the project, under which the writer's methods are thin.
+// Slice and place stay two parameters: a rule of the project (docs/RULES.md, Forms of the code, Writer).
 ghost use Rattle.std.specs.Prelude.{cond, [], ◌∷◌, ◌+◌, ◌≤◌, ◌<◌, length, replicate};
 ghost use Rattle.calculus.specs.Bounds.{greatest_number};
 ghost use Rattle.calculus.proofs.Putting.{Puts};
@@ -17,6 +17,7 @@ pub fn put(out: &mut [u8], to: usize, b: u8) -> usize
     }
 }
 
+// The bytes of a text, one after another.
 pub fn put_all(out: &mut [u8], to: usize, text: &[u8]) -> usize
     requires { to + length text.now ≤ greatest_number }
     ensures { Puts out.old to text.now result out.new }

@@ -11,6 +11,8 @@ ghost use Rattle.queries.specs.Comparing.{Low, Compares};
 use calculus::{MOST_HEIGHT, MOST_NODES};
 use term::{Head, Refusal};
 
+// The five that ask one field stay apart: public names, and a closure that picks the field is no plainer.
+
 // How many variables, abstractions and applications there are.
 pub fn nodes(s: &[u8]) -> Result<u64, Refusal>
     ensures { told result ≡ nodes_of s.now }
@@ -54,7 +56,8 @@ pub fn is_supercombinator(s: &[u8]) -> Result<bool, Refusal>
 }
 
 // Where two equal terms at one offset end, or none if they differ. Terms that were equal so far end at one offset. The
-// room falls at each call, so that calls nest no deeper than it.
+// room falls at each call, so that calls nest no deeper than it. Stays a walk, though `s == u` would do: a rule of the
+// project (docs/RULES.md, Forms of the code, Recursion).
 fn same_at(s: &[u8], u: &[u8], at: usize, room: u64) -> Option<usize>
     requires low { Low s.now at room }
     requires begins { Begins u.now at }
