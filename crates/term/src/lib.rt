@@ -22,7 +22,7 @@ pub enum Notation {
     Classic,
 }
 
-// A notation by its number; a number that no notation has is refused by 1.
+// A notation by its number; a number that no notation has is refused by OutsideBounds.
 impl TryFrom<u64> for Notation {
     type Error = Refusal;
 
@@ -97,6 +97,8 @@ pub fn index_at(s: &[u8], at: usize) -> u64
 }
 
 // What stands at an offset: none where the bytes end, where the byte is no kind, and where a variable is cut short.
+// The kinds stay numbers here: these are the coded bytes themselves.
+#[tactic(auto, using(crate::proofs::Heads::told))]
 pub fn head_at(s: &[u8], at: usize) -> Option<Head>
     ensures { result ≡ head_in (drop at s.now) }
 {
@@ -113,7 +115,8 @@ pub fn head_at(s: &[u8], at: usize) -> Option<Head>
     }
 }
 
-// One loop that counts the terms still owed: it takes no stack, however deep the bytes nest.
+// One loop that counts the terms still owed: it takes no stack, however deep the bytes nest. Stays a loop by
+// hand: a node takes 1 or 9 bytes, so no iterator steps as it does.
 fn scan_all(s: &[u8]) -> Result<(), usize>
     ensures { Scans (decode s.now) result }
 {
@@ -151,7 +154,7 @@ pub struct Facts {
     pub reach: u64,
 }
 
-// Whether an index under so many abstractions is 0 or free.
+// Whether an index under so many abstractions is 0 or free. It and the next stay, for their contracts.
 fn is_free(index: u64, depth: u64) -> bool
     ensures { result ≡ not (between 1 depth index) }
 {
@@ -206,7 +209,7 @@ fn of_application(left: Facts, right: Facts) -> Facts
 }
 
 // The facts of the term at an offset and the offset after it, or none where it is higher than the room. The room falls
-// at each call, so that calls nest no deeper than it.
+// at each call, so that calls nest no deeper than it. Bytes and offset stay apart, as in head_at: NotATerm tells one.
 fn survey_at(s: &[u8], at: usize, depth: u64, room: u64) -> Option<(Facts, usize)>
     requires room_bound { depth + room ≤ most_height }
     requires begins { Begins s.now at }
