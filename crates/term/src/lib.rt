@@ -87,6 +87,7 @@ pub enum Head {
 }
 
 // The eight bytes at an offset as a number, low byte first.
+#[tactic(auto, using(crate::proofs::Indices::eight))]
 pub fn index_at(s: &[u8], at: usize) -> u64
     requires { at + 8 ≤ length s.now }
     ensures { result ≡ from_digits 256 (take 8 (drop at s.now)) }
@@ -154,7 +155,8 @@ pub struct Facts {
     pub reach: u64,
 }
 
-// Whether an index under so many abstractions is 0 or free. It and the next stay, for their contracts.
+// Whether an index under so many abstractions is 0 or free. It and the next stay functions: written out
+// they are no plainer, and their contracts are what the proofs use.
 fn is_free(index: u64, depth: u64) -> bool
     ensures { result ≡ not (between 1 depth index) }
 {
