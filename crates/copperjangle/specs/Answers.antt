@@ -15,8 +15,8 @@ abbrev pub second : List ℕ → ℕ
 second [] = 0
 second (v ∷ vs) = first vs
 
--- where they are told, as (value, place, code): the length that 13 needs is a value; an offset or a place comes first of
--- all others, and a code point second
+-- where they are told, as (value, place, code): the length that 13 needs is a value; an offset or a place comes first
+-- of all others, and a code point second
 abbrev pub details : Refusal → ℕ × ℕ × ℕ
 details e =
     let vs = refusal_values e in cond (eqb (refusal_number e) 13) (first vs, 0, 0) (0, first vs, second vs)

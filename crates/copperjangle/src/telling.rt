@@ -31,8 +31,8 @@ impl Answer {
         Answer::reached(0, 0, value)
     }
 
-    // A refusal after so many steps, with what it returns. Each case has a line of its own: an edit that must be refused,
-    // `seven_with_a_value`, is planted at one of them.
+    // A refusal after so many steps, with what it returns.
+    // Each case stays a line of its own: the edit `seven_with_a_value`, which must be refused, is planted at one.
     pub(crate) fn refused(steps: u64, why: Refusal) -> Answer
         ensures { result ≡ refused_in_numbers steps (refusal_of why) }
     {

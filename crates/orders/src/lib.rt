@@ -53,7 +53,8 @@ impl Order {
         }
     }
 
-    // Whether the argument is reduced before it is put. It and the two below stay apart: other sets, alike by text only.
+    // Whether the argument is reduced before it is put.
+    // It and the two below stay apart: other sets, alike by text only.
     pub fn is_eager(self) -> bool
         ensures { result ≡ traits.eager (order_of self) }
     {

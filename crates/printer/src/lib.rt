@@ -53,7 +53,8 @@ struct Reached {
 
 // The text of the term at an offset. The loop goes on to an abstraction's body and to an application's right part, and
 // remembers only how many parentheses to close at the end; the left part is a call. The room falls at each call, so
-// that calls nest no deeper than it. Its parameters stay apart: speed, as for the engine, where structs in calls cost much.
+// that calls nest no deeper than it. Its parameters stay apart: speed, as in the engine, whose calls with
+// structs cost much.
 fn write_part(
     out: &mut [u8],
     mut to: usize,

@@ -98,8 +98,8 @@ fn put_named(out: &mut [u8], to: usize, most: u64, depth: u64, index: u64) -> us
 // How a term is written: in which notation, and with how many abstractions on a path at most.
 #[derive(Clone, Copy, Debug, PartialEq, Eq)]
 pub(crate) struct Style {
-    pub notation: Notation,
-    pub most: u64,
+    pub(crate) notation: Notation,
+    pub(crate) most: u64,
 }
 
 // IN EITHER NOTATION: a variable, a binder, the gap between two parts.

@@ -10,8 +10,8 @@ use crate::pieces::Style;
 // A method is thin: what is done is done on the slice and the place.
 #[derive(Drop)]
 pub(crate) struct Writer<'a> {
-    pub out: &'a mut [u8],
-    pub place: usize,
+    pub(crate) out: &'a mut [u8],
+    pub(crate) place: usize,
 }
 
 impl<'a> Writer<'a> {

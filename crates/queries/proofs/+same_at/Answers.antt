@@ -1,3 +1,4 @@
+-- `queries::same_at` meets its contract: at each head it is a law of `Comparing`. The room falls at each call.
 use Rattle.std.proofs.Common.{rules, ◌≡◌, sym, ap, ◌∙◌, arith, Option, Some}
 use Rattle.term.proofs.Places.{head_stands}
 use Rattle.term.proofs.Surveying.{body-begins, left-begins}

@@ -1,3 +1,4 @@
+-- `queries::equality` meets its contract: the first input's refusal, the second's, or what the walk finds.
 use Rattle.std.proofs.Common.{ap, ◌∙◌}
 use Rattle.calculus.specs.Refusal.{given}
 use Rattle.queries.proofs.Comparing.{whole-low, refuses-first, refuses-second, answers}

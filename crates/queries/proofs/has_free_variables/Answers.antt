@@ -1,3 +1,4 @@
+-- `queries::has_free_variables` meets its contract: the refusal of the check, or the fact asked.
 use Rattle.std.proofs.Common.{refl}
 use Rattle.calculus.specs.Queries.{has_free_variables}
 use Rattle.calculus.specs.Outcomes.{has_free_variables_of}

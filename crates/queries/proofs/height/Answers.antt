@@ -1,3 +1,4 @@
+-- `queries::height` meets its contract: the refusal of the check, or the fact asked.
 use Rattle.std.proofs.Common.{refl}
 use Rattle.calculus.specs.Term.{height}
 use Rattle.calculus.specs.Outcomes.{height_of}

@@ -1,3 +1,4 @@
+-- `queries::is_supercombinator` meets its contract: the same refusal, or the opposite truth.
 use Rattle.queries.proofs.Asking.{opposite_refused, opposite_given}
 use Rattle.queries.proofs.is_supercombinator.Goals as goal
 

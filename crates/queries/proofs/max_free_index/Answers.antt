@@ -1,3 +1,4 @@
+-- `queries::max_free_index` meets its contract: the refusal of the check, or the fact asked.
 use Rattle.std.proofs.Common.{refl}
 use Rattle.calculus.specs.Queries.{max_free_index}
 use Rattle.calculus.specs.Outcomes.{max_free_index_of}

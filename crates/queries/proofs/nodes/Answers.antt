@@ -1,3 +1,4 @@
+-- `queries::nodes` meets its contract: the refusal of the check, or the fact asked.
 use Rattle.std.proofs.Common.{refl}
 use Rattle.calculus.specs.Term.{nodes}
 use Rattle.calculus.specs.Outcomes.{nodes_of}
