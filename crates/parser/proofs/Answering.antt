@@ -62,7 +62,7 @@ refused-stores : {answer : Answer Term} (e : Refusal) (out : List ℕ) → answe
 refused-stores e out is = rw is
 
 module _ {n : Notation} {s : List ℕ} {most : ℕ} {store : List ℕ}
-    {r : Result Went Refusal} {stack' : List (Option Binder)} {store' : List ℕ}
+    {r : Result Went Refusal} {stack' : List Binder} {store' : List ℕ}
     (reads : Reads n s [] store most start 0 r stack' store') where
   comes_to : Comes n s [] most start 0 store' r
   unfolding opens

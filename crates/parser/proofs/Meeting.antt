@@ -25,27 +25,29 @@ use Rattle.parser.specs.declared.tokens.Token.{Token}
 use Rattle.words.proofs.Remaining.{remains_end}
 use Rattle.words.specs.Ahead.{words_at}
 use Rattle.words.proofs.Ahead.{ahead-word, ahead_end, ahead-invalid}
-use Rattle.parser.specs.Opens.{name_at, binder_of, opens, Opened, found}
+use Rattle.parser.specs.Opens.{name_at, binder_of, entry, opener, opens, Opened, found}
 use Rattle.parser.specs.Tokens.{words_on, list_of, word_of, Valid, Onward}
 use Rattle.parser.specs.Tokens.{MetIndex, MetOpening, MetClosing, MetEnd, MetRefused, Meets}
 use Rattle.parser.proofs.Going.{goes_number, goes-name, goes_undefined}
-use Rattle.parser.proofs.Openings.{past-group, is-binder, past-binder}
+use Rattle.parser.proofs.Openings.{is-group, is-named, past-group, is-binder, past-binder}
 
 -- LOOKING UP A NAME, with so many of the innermost already passed
-pub record Looks (s : List ℕ) (stack : List (Option Binder)) (x : List ℕ) (passed index : ℕ) : Type 0 where
+pub record Looks (s : List ℕ) (stack : List Binder) (x : List ℕ) (passed index : ℕ) : Type 0 where
   pub low : index ≤ passed + 1
   pub looks : resolved x 1 (opens s stack) ≡ resolved x index (opens s (drop passed stack))
 
-pub looks_first : (s : List ℕ) (stack : List (Option Binder)) (x : List ℕ) → Looks s stack x 0 1
+pub looks_first : (s : List ℕ) (stack : List Binder) (x : List ℕ) → Looks s stack x 0 1
 looks_first s stack x = record { low = omega arith; looks = refl }
 
 -- a binder that is open has its name in the text
-pub held_there : {s : List ℕ} {stack : List (Option Binder)} → Opened s stack → (n : ℕ) (w : Option Binder)
-    → (n < length stack) × (w ≡ get_or stack n w) → {y : Binder} → w ≡ Some y → Inside s (name_at y)
-held_there {stack = stack} opened n w (there, same) is =
-    rw (get_or_default stack n None w there ∙ sym same ∙ is) at (opened.inside n there)
+pub held_there : {s : List ℕ} {stack : List Binder} → Opened s stack → (n : ℕ) (w : Binder)
+    → (n < length stack) × (w ≡ get_or stack n w) → (w.to ≡ 0 → ⊥) → Inside s (name_at w)
+held_there {s} {stack} opened n w (there, same) some_after =
+    let e : opener (get_or stack n (entry None)) ≡ Some w =
+        ap opener (get_or_default stack n (entry None) w there ∙ sym same) ∙ is-named w some_after in
+    (rw e at (opened.inside n there)).1
 
-module _ {s : List ℕ} {stack : List (Option Binder)} {x : List ℕ} {index : ℕ} {B : Type 0} (given_so : List B)
+module _ {s : List ℕ} {stack : List Binder} {x : List ℕ} {index : ℕ} {B : Type 0} (given_so : List B)
     (so_far : Looks s stack x (length given_so) index) where
   one_more : (z : B) → length (given_so ++ z ∷ []) ≡ suc (length given_so)
   one_more z = omega (arith, length-append given_so (z ∷ []))
@@ -55,32 +57,29 @@ module _ {s : List ℕ} {stack : List (Option Binder)} {x : List ℕ} {index : �
   unfolding opens resolved
   looked_all all = sym (so_far.looks ∙ rw (drop_of_length-le stack all))
 
-  module _ (w : Option Binder) (t : (length given_so < length stack) × (w ≡ get_or stack (length given_so) w)) where
-    one_left : drop (length given_so) stack ≡ w ∷ drop (suc (length given_so)) stack
-    one_left = drop-cons stack (length given_so) w t.0 ∙ ap (λ y. y ∷ drop (suc (length given_so)) stack) (sym t.1)
+  module _ (w : Binder) (t : (length given_so < length stack) × (w ≡ get_or stack (length given_so) w)) where
+    here : resolved x 1 (opens s stack) ≡ resolved x index (opens s (w ∷ drop (suc (length given_so)) stack))
+    here = so_far.looks ∙ ap (λ ws. resolved x index (opens s ws))
+        (drop-cons stack (length given_so) w t.0 ∙ ap (λ y. y ∷ drop (suc (length given_so)) stack) (sym t.1))
 
-    here : (y : Option Binder) → w ≡ y → resolved x 1 (opens s stack)
-        ≡ resolved x index (opens s (y ∷ drop (suc (length given_so)) stack))
-    here y is = so_far.looks ∙ ap (λ ws. resolved x index (opens s ws)) (one_left ∙ ap (λ y. y ∷ drop (suc (length given_so)) stack) is)
-
-    pub looks_past-group : w ≡ None → (z : B) → Looks s stack x (length (given_so ++ z ∷ [])) index
-    looks_past-group is z = rw (one_more z) (record {
+    pub looks_past-group : w.to ≡ 0 → (z : B) → Looks s stack x (length (given_so ++ z ∷ [])) index
+    looks_past-group e z = rw (one_more z) (record {
       low = omega (arith, so_far.low);
-      looks = here None is ∙ past-group s x index _;
+      looks = here ∙ past-group s x index _ w (is-group w e);
     })
 
-    module _ {y : Binder} (binds : w ≡ Some y) where
-      pub looks_past-binder : same_text x (name_of s (name_at y)) ≡ false
+    module _ (some_after : w.to ≡ 0 → ⊥) where
+      pub looks_past-binder : same_text x (name_of s (name_at w)) ≡ false
           → (z : B) → Looks s stack x (length (given_so ++ z ∷ [])) (index + 1)
       looks_past-binder e z =
           let next-index : suc index ≡ index + 1 = omega arith in
           rw (one_more z) (record {
             low = omega (arith, so_far.low);
-            looks = here (Some y) binds ∙ rw next-index at (past-binder s x index (drop (suc (length given_so)) stack) y e);
+            looks = here ∙ rw next-index at (past-binder s x index (drop (suc (length given_so)) stack) w (is-named w some_after) e);
           })
 
-      pub looked_up : same_text x (name_of s (name_at y)) ≡ true → found (Some index) ≡ resolved x 1 (opens s stack)
-      looked_up e = sym (here (Some y) binds ∙ is-binder s x index _ y e)
+      pub looked_up : same_text x (name_of s (name_at w)) ≡ true → found (Some index) ≡ resolved x 1 (opens s stack)
+      looked_up e = sym (here ∙ is-binder s x index _ w (is-named w some_after) e)
 
 -- THE WORDS AHEAD of a place whose words are valid
 after-word : {w : Word} (here after : Answer (List Word)) → here ≡ (after then (λ ws. given (w ∷ ws)))
@@ -166,7 +165,7 @@ module _ {n : Notation} {s : List ℕ} {os : List Open} {here after : Cursor} (v
     ahead = words-after valid after.at opening e;
   }
 
-  pub meets-binder : (x : Name) → here.at + 1 ≤ after.at → Inside s x
+  pub meets-binder : (x : Name) → here.at + 1 ≤ after.at → (0 < x.from) × Inside s x
       → next n (remains s here.at) ≡ word (binder (name_of s x)) (remains s after.at)
       → MetOpening n s os here (Some (binder_of x)) after
   unfolding word_of

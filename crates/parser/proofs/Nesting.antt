@@ -5,7 +5,7 @@ use mathlib.Core.Bool.{Bool}
 use mathlib.Core.List.{List, ◌∷◌}
 use native.Mathlib.Omega.{arith}
 use native.Mathlib.Numerals.{add-one}
-use lib.ListN.{length}
+use lib.ListN.{length, drop}
 use Rattle.std.specs.Prelude.{Option, Some, None, Result, Ok, Err}
 use Rattle.calculus.specs.Bounds.{most_open, most_text}
 use Rattle.calculus.specs.Refusal.{refused}
@@ -19,7 +19,7 @@ use Rattle.words.specs.Places.{Clean, name_of}
 use Rattle.words.specs.declared.Cursor.{Cursor}
 use Rattle.parser.specs.declared.tokens.Binder.{Binder}
 use Rattle.nodes.proofs.Keeping.{same_refl, same_then}
-use Rattle.parser.specs.Opens.{name_at, open_of, opens, Held}
+use Rattle.parser.specs.Opens.{name_at, open_of, entry, opens, Held}
 use Rattle.parser.specs.States.{State, beside, under, go, unless_void, ended}
 use Rattle.parser.specs.Tokens.{words_on, word_of, MetOpening}
 use Rattle.parser.specs.Building.{Roomy, Joinable, Joins, JoinsUnder}
@@ -28,7 +28,7 @@ use Rattle.parser.specs.Sequences.{Reads, Enters, no_more, one_more, Groups}
 use Rattle.parser.specs.declared.building.Built.{Built}
 use Rattle.parser.specs.declared.sequences.Went.{Went}
 use Rattle.parser.proofs.Going.{goes-too_high, goes-group, goes-body, goes-refused}
-use Rattle.parser.proofs.Openings.{inner, opens_more, opened_more, opens-length}
+use Rattle.parser.proofs.Openings.{opens_more, opened_more, opens-length}
 use Rattle.parser.proofs.Meaning.{means-grows, means-kept}
 use Rattle.parser.proofs.Turns.{SoFar, same-open, beside-void, one_item, stops}
 
@@ -54,7 +54,7 @@ inside-stops {n} {s} {os} {w = w} {after = after} {e = e} (one_more few (to_a_re
     goes-refused (open_of s w) os (words_on n s after.at) st ps (refusal_of e) (omega arith) goes
 
 -- ONE MORE OPEN, or 7
-module _ {n : Notation} {s : List ℕ} {stack : List (Option Binder)} {store : List ℕ} {most : ℕ}
+module _ {n : Notation} {s : List ℕ} {stack : List Binder} {store : List ℕ} {most : ℕ}
     {from : Cursor} {base : ℕ}
     (ready : Ready n s stack store most from base) where
   pub too_many-open : {opening : Option Binder} → most_open ≤ length stack
@@ -63,34 +63,35 @@ module _ {n : Notation} {s : List ℕ} {stack : List (Option Binder)} {store : L
 
   module _ (few : length stack < most_open) where
     pub ready-opened : (opening : Option Binder) → Held s opening
-        → Ready n s (opening ∷ stack) store most from base
+        → Ready n s (entry opening ∷ stack) store most from base
     ready-opened opening inside = record {
       placed = ready.placed;
       valid = ready.valid;
-      opened = opened_more s stack opening ready.opened few inside;
+      opened = opened_more s stack opening inside ready.opened few;
       roomy = ready.roomy;
       few = ready.few;
     }
 
-    pub group-enters : (opening : Option Binder) {r : Result Went Refusal} {stack' : List (Option Binder)} {store' : List ℕ}
-        → Reads n s (opening ∷ stack) store most from base r stack' store'
-        → {x : Option Binder} {stack'' : List (Option Binder)} → stack' ≡ x ∷ stack''
+    pub group-enters : (opening : Option Binder) → Held s opening
+        → {r : Result Went Refusal} {stack' : List Binder} {store' : List ℕ}
+        → Reads n s (entry opening ∷ stack) store most from base r stack' store'
+        → {x : Binder} {stack'' : List Binder} → stack' ≡ x ∷ stack''
         → Groups n s stack opening store most from base r stack'' store'
-    group-enters opening reads popped = record {
-      enters = one_more (omega (arith, opens-length s stack)) (rw (opens_more s stack opening) at reads.comes);
-      kept = ap inner (sym popped ∙ reads.kept);
+    group-enters opening held reads popped = record {
+      enters = one_more (omega (arith, opens-length s stack)) (rw (opens_more s stack opening held) at reads.comes);
+      kept = ap (drop 1) (sym popped ∙ reads.kept);
       same = reads.same;
     }
 
 -- the law by which `group` refuses
 pub ruleset refusing = (too_many-open)
 
-module _ {n : Notation} {s : List ℕ} {stack : List (Option Binder)} {store : List ℕ} {most : ℕ}
+module _ {n : Notation} {s : List ℕ} {stack : List Binder} {store : List ℕ} {most : ℕ}
     {from : Cursor} {base : ℕ}
-    {stack' : List (Option Binder)} {store' : List ℕ} {here : Cursor} {read : Built}
+    {stack' : List Binder} {store' : List ℕ} {here : Cursor} {read : Built}
     (so_far : SoFar n s stack store most from base stack' store' here read)
     {after : Cursor} {w : Option Binder} (met : MetOpening n s (opens s stack') here w after)
-    {stack'' : List (Option Binder)} {store'' : List ℕ} where
+    {stack'' : List Binder} {store'' : List ℕ} where
   -- 6 or 7 inside, or 7 here
   pub nested_stops : {r : Result Went Refusal} {e : Refusal} → r ≡ Err e
       → Groups n s stack' w store' most after read.used r stack'' store''

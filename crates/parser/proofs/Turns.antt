@@ -37,9 +37,9 @@ beside-void true st (reading none) = refl
 beside-void true st (reading (some t)) = refl
 beside-void true st void = refl
 
-module _ (n : Notation) (s : List ℕ) (stack : List (Option Binder)) (store : List ℕ) (most : ℕ) (from : Cursor) (base : ℕ) where
+module _ (n : Notation) (s : List ℕ) (stack : List Binder) (store : List ℕ) (most : ℕ) (from : Cursor) (base : ℕ) where
   -- what a sequence has read up to a place
-  pub record SoFar (stack' : List (Option Binder)) (store' : List ℕ) (here : Cursor) (read : Built) : Type 0 where
+  pub record SoFar (stack' : List Binder) (store' : List ℕ) (here : Cursor) (read : Built) : Type 0 where
     pub state : State
     pub reaches : Reaches n s most from base here store' read state
     pub kept : stack' ≡ stack
@@ -62,14 +62,14 @@ module _ (n : Notation) (s : List ℕ) (stack : List (Option Binder)) (store : L
     goes = λ failed ps. refl;
   }
 
-module _ {n : Notation} {s : List ℕ} {stack : List (Option Binder)} {store : List ℕ} {most : ℕ}
-    {from : Cursor} {base : ℕ} {stack' : List (Option Binder)} {store' : List ℕ} {here : Cursor} {read : Built}
+module _ {n : Notation} {s : List ℕ} {stack : List Binder} {store : List ℕ} {most : ℕ}
+    {from : Cursor} {base : ℕ} {stack' : List Binder} {store' : List ℕ} {here : Cursor} {read : Built}
     (so_far : SoFar n s stack store most from base stack' store' here read) where
   pub same-open : opens s stack' ≡ opens s stack
   same-open = ap (opens s) so_far.kept
 
   -- an item was read
-  pub one_item : {stack'' : List (Option Binder)} {store'' : List ℕ} {after : Cursor} (more : Built) (inner : State) → Onward n s here after
+  pub one_item : {stack'' : List Binder} {store'' : List ℕ} {after : Cursor} (more : Built) (inner : State) → Onward n s here after
       → more.used + 2 * here.at ≤ read.used + 2 * after.at → stack'' ≡ stack'
       → Same store' store'' read.used
       → Means store'' most base more.used more.part (beside so_far.state inner)

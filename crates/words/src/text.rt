@@ -21,6 +21,9 @@ impl<'a> Text<'a> {
         requires { Inside self.bytes.now x × Inside self.bytes.now y }
         ensures { result ≡ same_text (name_of self.entry.bytes.now x) (name_of self.entry.bytes.now y) }
     {
+        if x.to - x.from != y.to - y.from {
+            return false;
+        }
         let one = &self.bytes[x.from..x.to];
         let other = &self.bytes[y.from..y.to];
         // the first byte tells most names apart, and `==` of slices calls a function

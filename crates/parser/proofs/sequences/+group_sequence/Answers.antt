@@ -11,7 +11,7 @@ use Rattle.parser.proofs.sequences.+group_sequence.Goals as goal
 
 pub group-returns : goal.group-returns
 group-returns t c =
-    group-enters c.requires.0 (omega (arith, c.len.ensures)) _ (rw c.push.ensures at c.sequence-went.ensures) c.pop.ensures
+    group-enters c.requires.0 (omega (arith, c.len.ensures)) _ c.requires.1 (rw c.push.ensures at c.sequence-went.ensures) c.pop.ensures
 
 pub sequence-loop-token-init : goal.sequence-loop-token-init
 sequence-loop-token-init t c = at_first _ _ _ _ _ _ _ c.requires

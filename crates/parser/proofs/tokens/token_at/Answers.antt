@@ -23,7 +23,7 @@ pub returns-in-Binder : goal.returns-in-Binder
 returns-in-Binder c =
     let told = c.next-step.ensures.0 in
     rw c.named.ensures (meets-binder c.requires.1 told.placed told.forward _
-    (rw c.in-Binder.is at c.next-step.ensures.1) (rw c.in-Binder.is at told.names).1
+    (rw c.in-Binder.is at c.next-step.ensures.1) (rw c.in-Binder.is at told.names)
     (rw c.in-Binder.is at told.tells))
 
 pub returns-in-Right : goal.returns-in-Right

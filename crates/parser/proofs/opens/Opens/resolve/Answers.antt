@@ -12,27 +12,27 @@ pub same_name-requires : goal.same_name-requires
 same_name-requires c =
     let y = YieldsList-from_rev_slice (take c.self.inside.count c.self.inside.names) cc in
     let t = YieldsList-turn y c.loop-open.yielded _ c.loop-open.yielded_by _ _ c.in-Some.open c.in-Some.is c.next.ensures.steps in
-    (c.requires.0, rw c.name.ensures (held_there c.requires.1 _ _ (rw c.self.view_is at t) c.in-Some-open.is))
+    (c.requires.0, rw c.name.ensures (held_there c.requires.1 _ _ (rw c.self.view_is at t) c.if-open-ne0.true))
 
 pub returns-then-same_name : goal.returns-then-same_name
 returns-then-same_name c =
     let y = YieldsList-from_rev_slice (take c.self.inside.count c.self.inside.names) cc in
     let t = YieldsList-turn y c.loop-open.yielded _ c.loop-open.yielded_by _ _ c.in-Some.open c.in-Some.is c.next.ensures.steps in
-    looked_up c.loop-open.yielded c.loop-open.invariant _ (rw c.self.view_is at t) c.in-Some-open.is
+    looked_up c.loop-open.yielded c.loop-open.invariant _ (rw c.self.view_is at t) c.if-open-ne0.true
     (rw c.name.ensures at (sym c.same_name.ensures ∙ c.if-same_name.true))
 
-pub loop-open-preserved-in-Some-open : goal.loop-open-preserved-in-Some-open
-loop-open-preserved-in-Some-open c =
+pub loop-open-preserved-then-open-ne0 : goal.loop-open-preserved-then-open-ne0
+loop-open-preserved-then-open-ne0 c =
     let y = YieldsList-from_rev_slice (take c.self.inside.count c.self.inside.names) cc in
     let t = YieldsList-turn y c.loop-open.yielded _ c.loop-open.yielded_by _ _ c.in-Some.open c.in-Some.is c.next.ensures.steps in
-    looks_past-binder c.loop-open.yielded c.loop-open.invariant _ (rw c.self.view_is at t) c.in-Some-open.is
+    looks_past-binder c.loop-open.yielded c.loop-open.invariant _ (rw c.self.view_is at t) c.if-open-ne0.true
     (rw c.name.ensures at (sym c.same_name.ensures ∙ c.if-same_name.false)) _
 
 pub loop-open-preserved : goal.loop-open-preserved
 loop-open-preserved c =
     let y = YieldsList-from_rev_slice (take c.self.inside.count c.self.inside.names) cc in
     let t = YieldsList-turn y c.loop-open.yielded _ c.loop-open.yielded_by _ _ c.in-Some.open c.in-Some.is c.next.ensures.steps in
-    looks_past-group c.loop-open.yielded c.loop-open.invariant _ (rw c.self.view_is at t) c.in_default.is _
+    looks_past-group c.loop-open.yielded c.loop-open.invariant _ (rw c.self.view_is at t) c.if-open-ne0.false _
 
 pub returns : goal.returns
 returns c =
