@@ -23,10 +23,11 @@ pub(crate) fn is_plain(b: u8) -> bool
 pub(crate) fn code_of(b: u8) -> u64
     ensures { result ≡ char_of b }
 {
-    if b == SIGN_FIRST { 955 } else { b as u64 }
+    if b == SIGN_FIRST { 955 } else { u64::from(b) }
 }
 
 // What a run of characters may hold: white space, what a binder's name holds, what a name elsewhere holds.
+// No closures: data by case is plainer, since each case has its test in the definitions.
 #[derive(Clone, Copy, Debug, PartialEq, Eq)]
 pub(crate) enum Run {
     White,
@@ -34,18 +35,21 @@ pub(crate) enum Run {
     Elsewhere,
 }
 
+// White space: a space, a tab or an end of line.
 pub(crate) fn is_white(b: u8) -> bool
     ensures { result ≡ white b }
 {
     matches!(b, b' ' | b'\t' | b'\n' | b'\r')
 }
 
+// A letter, by the library's test: this states it in the words of the definitions, as does the next.
 pub(crate) fn is_letter(b: u8) -> bool
     ensures { result ≡ classic.is_letter b }
 {
     b.is_ascii_alphabetic()
 }
 
+// A figure.
 pub(crate) fn is_figure(b: u8) -> bool
     ensures { result ≡ classic.is_figure b }
 {
@@ -58,24 +62,8 @@ pub(crate) fn may_hold(run: Run, b: u8) -> bool
 {
     match run {
         Run::White => is_white(b),
-        Run::Bound => {
-            if is_letter(b) {
-                return true;
-            }
-            if is_figure(b) {
-                return true;
-            }
-            b == SIGN_FIRST
-        }
-        Run::Elsewhere => {
-            if b == b'(' {
-                return false;
-            }
-            if b == b')' {
-                return false;
-            }
-            !is_white(b)
-        }
+        Run::Bound => is_letter(b) || is_figure(b) || b == SIGN_FIRST,
+        Run::Elsewhere => b != b'(' && b != b')' && !is_white(b),
     }
 }
 
@@ -84,9 +72,9 @@ pub(crate) fn hex_digit(b: u8) -> Option<u64>
     ensures { result ≡ hex_digit b }
 {
     match b {
-        b'0'..=b'9' => Some(u64::from(b - 48)),
-        b'A'..=b'F' => Some(u64::from(b - 55)),
-        b'a'..=b'f' => Some(u64::from(b - 87)),
+        b'0'..=b'9' => Some(u64::from(b - b'0')),
+        b'A'..=b'F' => Some(u64::from(b - (b'A' - 10))),
+        b'a'..=b'f' => Some(u64::from(b - (b'a' - 10))),
         _ => None,
     }
 }

@@ -21,7 +21,8 @@ use judging::{scan_domain, scan_words};
 use term::{Notation, Refusal};
 use text::Text;
 
-// A reading place: the bytes and the characters before it. Two words, passed in registers, so the text stays beside it.
+// A reading place: the bytes and the characters before it. Two numbers, passed in registers.
+// The text stays beside it (`Placed` says that they belong together): each place handed on would carry it, no plainer.
 #[derive(Clone, Copy, Debug, PartialEq, Eq)]
 pub struct Cursor {
     pub at: usize,
@@ -29,6 +30,7 @@ pub struct Cursor {
 }
 
 // A name is a place in the text: its bytes stand from one offset up to another.
+// No slice: no plainer, since the parser keeps the ends in half the memory.
 #[derive(Clone, Copy, Debug, PartialEq, Eq)]
 pub struct Name {
     pub from: usize,
@@ -55,7 +57,7 @@ pub struct Step {
     pub next: Cursor,
 }
 
-// No name, at an offset: De Bruijn's binders have it.
+// The empty name, at an offset: De Bruijn's binders have it in the definitions too, so it is no Option.
 pub(crate) fn unnamed(at: usize) -> Name
     ensures { (result.from ≡ at) × (result.to ≡ at) }
 {
@@ -87,6 +89,7 @@ impl Cursor {
         requires { Placed text.bytes.now self }
         ensures { Over text.entry.bytes.now (test_of run) self result }
     {
+        // no index is counted: a character takes one byte or two, which no iterator of bytes passes
         let mut here = self;
         while here.at < text.bytes.len() {
             let at = here.at;
@@ -98,7 +101,7 @@ impl Cursor {
         here
     }
 
-    // The next word.
+    // The next word. The notation is data, no closure: each has its own `first_word` in the definitions.
     pub fn next(self, text: Text, notation: Notation) -> Step
         requires { Placed text.bytes.now self }
         ensures { Tells text.entry.bytes.now self
