@@ -8,7 +8,7 @@ use native.Mathlib.Omega.{arith}
 use lib.ListN.{length}
 use borrow.Author.Tests.{le-leb}
 use Rattle.calculus.specs.Term.{Term}
-use Rattle.calculus.specs.Bounds.{most_open, most_text}
+use Rattle.calculus.specs.Bounds.{most_text}
 use Rattle.calculus.specs.Refusal.{Answer, given, refused, ◌then◌}
 use Rattle.calculus.specs.Characters.{characters}
 use Rattle.calculus.specs.Words.{Word, words}
@@ -32,7 +32,7 @@ use Rattle.parser.specs.Tokens.{words_on, Valid}
 use Rattle.parser.specs.Sequences.{Ready, Ends, Comes, to_its_end, to_a_refusal, Reads}
 use Rattle.parser.specs.Parsing.{Stores, Storable, Saves}
 use Rattle.parser.specs.declared.sequences.Went.{Went}
-use Rattle.std.specs.Prelude.{Option, Result, Ok, Err}
+use Rattle.std.specs.Prelude.{Result, Ok, Err}
 use Rattle.parser.specs.declared.tokens.Binder.{Binder}
 
 abbrev start : Cursor

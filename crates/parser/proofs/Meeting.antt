@@ -1,5 +1,5 @@
 -- The token at a place: how a name is looked up, and what the code's word says of the words ahead.
-use Prim.Native.Nat.{ℕ, suc, ◌+◌, ◌-◌, ◌≤◌, ◌<◌}
+use Prim.Native.Nat.{ℕ, suc, ◌+◌, ◌≤◌, ◌<◌}
 use mathlib.Core.Path.{◌≡◌, refl, sym, ap, ◌∙◌}
 use mathlib.Core.Bool.{true, false}
 use mathlib.Core.List.{List, [], ◌∷◌}
@@ -44,7 +44,7 @@ pub held_there : {s : List ℕ} {stack : List Binder} → Opened s stack → (n 
     → (n < length stack) × (w ≡ get_or stack n w) → (w.to ≡ 0 → ⊥) → Inside s (name_at w)
 held_there {s} {stack} opened n w (there, same) some_after =
     let e : opener (get_or stack n (entry None)) ≡ Some w =
-        ap opener (get_or_default stack n (entry None) w there ∙ sym same) ∙ is-named w some_after in
+    ap opener (get_or_default stack n (entry None) w there ∙ sym same) ∙ is-named w some_after in
     (rw e at (opened.inside n there)).1
 
 module _ {s : List ℕ} {stack : List Binder} {x : List ℕ} {index : ℕ} {B : Type 0} (given_so : List B)

@@ -8,7 +8,7 @@ use native.Mathlib.Omega.{arith}
 use Rattle.calculus.specs.Term.{var}
 use Rattle.calculus.specs.Bounds.{most_text}
 use Rattle.calculus.specs.Refusal.{refused}
-use Rattle.std.specs.Prelude.{Option, Result, Ok, Err}
+use Rattle.std.specs.Prelude.{Result, Ok, Err}
 use Rattle.term.specs.Answers.{refusal_of}
 use Rattle.calculus.specs.Reading.{Notation}
 use Rattle.calculus.specs.Words.{Word}

@@ -1,4 +1,4 @@
--- What is left to do after 1 and 2: the answer and the output, for a text and a store.
+-- What the answer at the end of a text is, and what saving it asks and gives.
 use Rattle.std.specs.Prelude.{ℕ, ◌≡◌, List, [], Result}
 use Rattle.calculus.specs.Refusal.{Answer, ◌then◌}
 use Rattle.calculus.specs.Term.{Term}

@@ -23,8 +23,8 @@ use Rattle.parser.specs.declared.building.Built.{Built}
 use Rattle.parser.specs.declared.sequences.Went.{Went}
 
 -- a place in a text, what is open there, and the store
-pub record Ready (n : Notation) (s : List ℕ) (stack : List Binder) (store : List ℕ) (cap : ℕ) (from : Cursor) (base : ℕ) :
-    Type 0 where
+pub record Ready (n : Notation) (s : List ℕ) (stack : List Binder) (store : List ℕ) (cap : ℕ) (from : Cursor)
+    (base : ℕ) : Type 0 where
   pub placed : Placed s from
   pub valid : Valid n s from.at
   pub opened : Opened s stack
@@ -62,8 +62,8 @@ pub data Comes (n : Notation) (s : List ℕ) (os : List Open) (cap : ℕ) (from 
       → Comes n s os cap from base store (Err e)
 
 -- what was open, and the nodes made before, stay
-pub record Reads (n : Notation) (s : List ℕ) (stack : List Binder) (store : List ℕ) (cap : ℕ) (from : Cursor) (base : ℕ)
-    (r : Result Went Refusal) (stack' : List Binder) (store' : List ℕ) : Type 0 where
+pub record Reads (n : Notation) (s : List ℕ) (stack : List Binder) (store : List ℕ) (cap : ℕ) (from : Cursor)
+    (base : ℕ) (r : Result Went Refusal) (stack' : List Binder) (store' : List ℕ) : Type 0 where
   pub comes : Comes n s (opens s stack) cap from base store' r
   pub kept : stack' ≡ stack
   pub same : Same store store' base
@@ -72,11 +72,13 @@ pub record Reads (n : Notation) (s : List ℕ) (stack : List Binder) (store : Li
 pub data Enters (n : Notation) (s : List ℕ) (os : List Open) (opening : Option Binder) (cap : ℕ)
     (from : Cursor) (base : ℕ) (store : List ℕ) : Result Went Refusal → Type 0 where
   no_more : most_open ≤ length os → Enters n s os opening cap from base store (Err TooHigh)
-  one_more : {r : Result Went Refusal} → length os < most_open → Comes n s (open_of s opening ∷ os) cap from base store r
+  one_more : {r : Result Went Refusal} → length os < most_open
+      → Comes n s (open_of s opening ∷ os) cap from base store r
       → Enters n s os opening cap from base store r
 
 pub record Groups (n : Notation) (s : List ℕ) (stack : List Binder) (opening : Option Binder)
-    (store : List ℕ) (cap : ℕ) (from : Cursor) (base : ℕ) (r : Result Went Refusal) (stack' : List Binder) (store' : List ℕ) : Type 0 where
+    (store : List ℕ) (cap : ℕ) (from : Cursor) (base : ℕ) (r : Result Went Refusal) (stack' : List Binder)
+    (store' : List ℕ) : Type 0 where
   pub enters : Enters n s (opens s stack) opening cap from base store' r
   pub kept : stack' ≡ stack
   pub same : Same store store' base

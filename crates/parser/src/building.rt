@@ -1,7 +1,7 @@
 // What a sequence has read so far, and the nodes it is built of while the term may still be within the bounds.
-ghost use Rattle.std.specs.Prelude.{◌*◌, ◌≤◌};
+ghost use Rattle.std.specs.Prelude.{◌≡◌, ◌+◌, ◌*◌, ◌≤◌};
 ghost use Rattle.calculus.specs.Bounds.{most_text};
-ghost use Rattle.parser.specs.Building.{Roomy, Makes, Enclosable, Encloses, Applicable, Applies};
+ghost use Rattle.parser.specs.Building.{counted, Roomy, Makes, Enclosable, Encloses, Applicable, Applies};
 ghost use Rattle.parser.specs.Building.{Joinable, Joins, Extends, JoinsUnder};
 
 use calculus::MOST_HEIGHT;
@@ -13,7 +13,7 @@ pub(crate) struct Found {
     pub(crate) node: usize,
 }
 
-// Nothing yet, a term, or something in it is empty.
+// Nothing yet, a term, or something in it is empty: three cases, which an Option of a Result would say no plainer.
 #[derive(Clone, Copy, Debug, PartialEq, Eq)]
 pub(crate) enum Part {
     Nothing,
@@ -22,31 +22,33 @@ pub(crate) enum Part {
 }
 
 // What was read, and how many nodes up to its end; they are counted also where they are not made.
+// Store and cap stay parameters beside it: a struct of a lent store would be lent anew at each call, no plainer.
 #[derive(Clone, Copy, Debug, PartialEq, Eq)]
 pub(crate) struct Built {
     pub(crate) part: Part,
     pub(crate) used: usize,
 }
 
+// A term, and its node counted, which is made only where the term may still be within the bounds.
+fn counted(height: u64, node: usize) -> Built
+    requires { node ≤ 2 * most_text + 2 }
+    ensures { result ≡ counted height node }
+{
+    Built {
+        part: Part::Term(Found { height, node }),
+        used: node + 1,
+    }
+}
+
+// A variable.
 fn variable(store: &mut [u64], cap: usize, used: usize, index: u64) -> Built
     requires { Roomy store.old cap used }
     ensures { Makes store.old cap used index store.new result }
 {
-    let part = Part::Term(Found {
-        height: 1,
-        node: used,
-    });
     if used < cap {
-        Built {
-            part,
-            used: nodes::make_variable(store, used, index),
-        }
-    } else {
-        Built {
-            part,
-            used: used + 1,
-        }
+        nodes::make_variable(store, used, index);
     }
+    counted(1, used)
 }
 
 // An abstraction whose body was read.
@@ -62,23 +64,10 @@ fn abstraction(store: &mut [u64], cap: usize, body: Built) -> Built
         },
         Part::Term(inner) => {
             let height = inner.height + 1;
-            let part = Part::Term(Found { height, node: used });
-            if cap <= used {
-                return Built {
-                    part,
-                    used: used + 1,
-                };
+            if used < cap && height <= MOST_HEIGHT {
+                nodes::make_abstraction(store, used, inner.node);
             }
-            if MOST_HEIGHT < height {
-                return Built {
-                    part,
-                    used: used + 1,
-                };
-            }
-            Built {
-                part,
-                used: nodes::make_abstraction(store, used, inner.node),
-            }
+            counted(height, used)
         }
     }
 }
@@ -89,23 +78,10 @@ fn application(store: &mut [u64], cap: usize, used: usize, left: Found, right: F
     ensures { Applies store.old cap used left right store.new result }
 {
     let height = left.height.max(right.height) + 1;
-    let part = Part::Term(Found { height, node: used });
-    if cap <= used {
-        return Built {
-            part,
-            used: used + 1,
-        };
+    if used < cap && height <= MOST_HEIGHT {
+        nodes::make_application(store, used, left.node, right.node);
     }
-    if MOST_HEIGHT < height {
-        return Built {
-            part,
-            used: used + 1,
-        };
-    }
-    Built {
-        part,
-        used: nodes::make_application(store, used, left.node, right.node),
-    }
+    counted(height, used)
 }
 
 // What was read, with one more item.

@@ -83,7 +83,8 @@ fn read(
     build(notation, cap, clean, out, store)
 }
 
-// OutsideBounds, TooLittleRoom, then the work, after which the room is cleared.
+// OutsideBounds, TooLittleRoom, then the work, after which the room is cleared. The same frame as of `apply`, `eta` and
+// `reduce`: one function over the work would need a closure that holds the output, no plainer.
 pub fn parse(
     notation: Notation,
     cap: u64,

@@ -12,7 +12,7 @@ use words::Name;
 use words::text::Text;
 
 // What stands for a `(`: the ends 0 and 0, which no binder's name has, since its lambda is before it.
-// No Option: its entries of 12 bytes made a name under 500 groups 1.4 times as slow to look up, as measured.
+// No Option: tried, and with entries of 12 bytes a name under 500 groups took 1.4 times as long, a short text 1.07.
 const GROUP: Binder = Binder { from: 0, to: 0 };
 
 // All that is open, the last of so many entries innermost. The array is cleared for each text.
@@ -45,6 +45,7 @@ impl Opens {
         }
     }
 
+    // How much is open.
     pub(crate) fn len(&self) -> usize
         ensures { result ≡ length self.now }
     {
@@ -74,6 +75,7 @@ impl Opens {
         requires { Inside text.bytes.now name × Opened text.bytes.now self.now }
         ensures { found result ≡ resolved (name_of text.entry.bytes.now name) 1 (opens text.entry.bytes.now self.now) }
     {
+        // counted by hand: binders alone count, and `filter` with `position` is two closures for one test, no plainer
         let mut index = 1;
         for open in self.names[..self.count].iter().rev() {
             if open.to != 0 {

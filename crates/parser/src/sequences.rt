@@ -11,7 +11,7 @@ use term::{Notation, Refusal};
 use words::Cursor;
 use words::text::Text;
 
-// What was read up to a place, and whether a `)` closed it there.
+// What was read up to a place, and whether a `)` closed it there: all three are meant at once, so no Option.
 #[derive(Clone, Copy, Debug, PartialEq, Eq)]
 pub(crate) struct Went {
     pub(crate) read: Built,
@@ -20,6 +20,7 @@ pub(crate) struct Went {
 }
 
 // The items up to a `)`, which is passed, or the end. The body of an abstraction is the rest of its sequence.
+// What is handed on stays parameters: a struct would lend the stack and the store anew at each call, no plainer.
 #[cycle(group_sequence)]
 pub(crate) fn sequence(
     text: Text,
@@ -31,7 +32,8 @@ pub(crate) fn sequence(
     base: usize,
 ) -> Result<Went, Refusal>
     requires { Ready (notation_of notation) text.bytes.now stack.old store.old cap from base }
-    ensures { Reads (notation_of notation) text.entry.bytes.now stack.old store.old cap from base result stack.new store.new }
+    ensures { Reads (notation_of notation) text.entry.bytes.now stack.old
+        store.old cap from base result stack.new store.new }
 {
     let mut here = from;
     let mut read = Built {

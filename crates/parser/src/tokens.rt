@@ -18,7 +18,9 @@ pub(crate) struct Binder {
     pub(crate) to: u32,
 }
 
+// No From: the first has a `requires`, and the two are a pair.
 impl Binder {
+    // With the name's ends.
     fn named(name: Name) -> Binder
         requires { (name.from ≤ most_text) × (name.to ≤ most_text) }
         ensures { result ≡ binder_of name }
@@ -29,6 +31,7 @@ impl Binder {
         }
     }
 
+    // The place of its name.
     pub(crate) fn name(self) -> Name
         ensures { result ≡ name_at self }
     {
@@ -39,7 +42,7 @@ impl Binder {
     }
 }
 
-// What opens is a `(`, or a binder by its name.
+// What opens is a `(`, or a binder by its name. The end is a case as a `)` is, since a sequence ends at either.
 #[derive(Clone, Copy, Debug, PartialEq, Eq)]
 pub(crate) enum Token {
     Index(u64),

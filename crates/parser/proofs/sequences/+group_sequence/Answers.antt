@@ -5,7 +5,7 @@ use Rattle.words.proofs.Tables.{only_none}
 use Rattle.parser.proofs.Meeting.{met-as, met-refused}
 use Rattle.parser.proofs.Turns.{at_first, variable-read, closed-here, ended_here, refused_here}
 use Rattle.parser.proofs.Turns.{few_used, roomy-here, enclosable-here, opened-here, ready-inside}
-use Rattle.parser.proofs.Nesting.{ready-opened, group-enters, nested_stops, group-read, body-read}
+use Rattle.parser.proofs.Nesting.{group-enters, nested_stops, group-read, body-read}
 use Rattle.parser.proofs.Nesting.{last-few, went_on, roomy_after, joinable-after}
 use Rattle.parser.proofs.sequences.+group_sequence.Goals as goal
 

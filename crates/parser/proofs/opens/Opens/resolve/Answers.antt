@@ -1,5 +1,5 @@
 -- `parser::opens::Opens::resolve` meets its contract: what is open is passed one by one, from the innermost.
-use Rattle.std.proofs.Common.{◌≡◌, sym, ◌∙◌, arith, take}
+use Rattle.std.proofs.Common.{sym, ◌∙◌, arith, take}
 use Rattle.std.proofs.lemmas.Iterator.Adapters.{YieldsList-from_rev_slice}
 use Rattle.std.proofs.lemmas.Iterator.Consumers.{YieldsList-turn, YieldsList-end}
 use Rattle.parser.proofs.Meeting.{looks_first, held_there, looked_all, looks_past-group, looks_past-binder, looked_up}
