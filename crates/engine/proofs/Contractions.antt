@@ -1,6 +1,6 @@
 -- A contraction in its place: why it is not made, what making it asks, and what is told once it is made.
 use Prim.Native.Nat.{ℕ, ◌+◌, ◌-◌, ◌≤◌, ◌<◌}
-use mathlib.Core.Path.{◌≡◌, refl}
+use mathlib.Core.Path.{◌≡◌, refl, ap}
 use mathlib.Core.List.{List}
 use native.Mathlib.Omega.{arith}
 use Rattle.calculus.specs.Term.{Term, nodes, height, greatest_index}
@@ -13,10 +13,16 @@ use Rattle.substitution.proofs.Counting.{within}
 use Rattle.engine.specs.Judging.{tells_high, tells_many}
 use Rattle.engine.specs.Contracting.{Contractible, Assured, most_of}
 use Rattle.engine.specs.Contracting.{Why, refuses, Contracted, made, not_made}
-use Rattle.engine.specs.States.{State, halted, advanced}
+use Rattle.engine.specs.States.{State, told, halted, advanced}
+use Rattle.engine.specs.declared.At.{At}
+use Rattle.engine.specs.declared.Work.{Work}
 use Rattle.engine.specs.declared.Stop.{Stop}
 use Rattle.engine.specs.declared.Stop.TheVariants.{TooHigh, TooManyNodes}
 use Rattle.engine.proofs.Parts.{accepts_part, refused_high, refused-many}
+
+-- what is told of equal answers
+pub told_of : {p q : At} {work : Work} → p ≡ q → told p work ≡ told q work
+told_of {work = work} e = ap (λ x. told x work) e
 
 -- it is not made, and what was there is kept
 pub stays : {b a : Term} {depth : ℕ} {s r : State} {room after : List ℕ} {stop : Stop} → Why b a depth s room stop

@@ -20,11 +20,12 @@ use Rattle.substitution.proofs.Counting.{within}
 use Rattle.engine.specs.Judging.{tells_great}
 use Rattle.engine.specs.Contracting.{Contractible, Assured, most_of, full, refuses, Contracted}
 use Rattle.engine.specs.States.{State, lent, told, halted, advanced}
+use Rattle.engine.specs.declared.At.{At}
 use Rattle.engine.specs.declared.Work.{Work}
 use Rattle.engine.specs.declared.Stop.TheVariants.{Full, TooHigh, TooManyNodes, IndexTooGreat}
 use Rattle.engine.proofs.Parts.{refused_great}
 use Rattle.engine.proofs.Contractions as contractions
-use Rattle.engine.proofs.Contractions.{stays, at_high, at_many}
+use Rattle.engine.proofs.Contractions.{told_of, stays, at_high, at_many}
 
 module _ {b a : Term} {depth most : ℕ} {s : State} {body argument : ℕ} {room : List ℕ}
     (can : Contractible b a depth most s body argument room) where
@@ -109,18 +110,20 @@ module _ {b a : Term} {depth most : ℕ} {s : State} {body argument : ℕ} {room
 module _ {b a : Term} {depth most : ℕ} {work : Work} {body argument : ℕ} {room : List ℕ} {weight : Weight}
     (can : Contractible b a depth most (lent work) body argument room)
     (weighs : Weighs room body argument weight) where
-  pub great_told : weight.bursts ≡ true
-      → Contracted b a depth (lent work) room (told (record { node = 0; stop = IndexTooGreat }) work) room
-  great_told over = at_great can weighs over refl
+  pub great_told : {answer : At} → answer ≡ record { node = 0; stop = IndexTooGreat } → weight.bursts ≡ true
+      → Contracted b a depth (lent work) room (told answer work) room
+  great_told e over = at_great can weighs over (told_of e)
 
-  pub high_told : weight.bursts ≡ false → most_height < depth + weight.height
-      → Contracted b a depth (lent work) room (told (record { node = 0; stop = TooHigh }) work) room
-  high_told small high = at_height can weighs small high refl
+  pub high_told : {answer : At} → answer ≡ record { node = 0; stop = TooHigh } → weight.bursts ≡ false
+      → most_height < depth + weight.height
+      → Contracted b a depth (lent work) room (told answer work) room
+  high_told e small high = at_height can weighs small high (told_of e)
 
-  pub full_told : weight.bursts ≡ false → depth + weight.height ≤ most_height → weight.nodes ≤ most
+  pub full_told : {answer : At} → answer ≡ record { node = 0; stop = Full } → weight.bursts ≡ false
+      → depth + weight.height ≤ most_height → weight.nodes ≤ most
       → length room / 2 < work.used + weight.nodes + depth
-      → Contracted b a depth (lent work) room (told (record { node = 0; stop = Full }) work) room
-  full_told small low few more = at_full can weighs small low few more refl
+      → Contracted b a depth (lent work) room (told answer work) room
+  full_told e small low few more = at_full can weighs small low few more (told_of e)
 
 -- a contraction is at most twice as high as its redex, which is not of height 0
 pub at_most_doubled : (b a : Term)

@@ -1,4 +1,5 @@
 // One contraction in its place: weighed before it is made, or made at once where that cannot go wrong.
+ghost use Rattle.std.specs.Prelude.{◌≡◌};
 ghost use Rattle.calculus.specs.Term.{Term};
 ghost use Rattle.engine.specs.States.{lent, told};
 ghost use Rattle.engine.specs.Contracting.{Redex, Contractible, Assured, Contracted};
@@ -9,7 +10,15 @@ use nodes::UNKNOWN;
 use substitution::put_in;
 use substitution::weighing::weigh;
 
-// Each answers a node and why the run stops there.
+// Each answers a node and why the run stops there, or 0, which is no node, and why nothing was contracted.
+// stays a struct: a Result of the node, three words, went through memory in the recursion above and was slower
+
+// No node, and why nothing was contracted.
+fn stopped(stop: Stop) -> At
+    ensures { result ≡ record { node = 0; stop = stop } }
+{
+    At { node: 0, stop }
+}
 
 // A contraction to at most so many nodes, judged before it is made. Room for the nodes above it is kept: each is made
 // once more on the way out.
@@ -29,31 +38,19 @@ fn contract_weighed(
 {
     let weight = weigh(room, body, argument);
     if weight.bursts {
-        return At {
-            node: 0,
-            stop: Stop::IndexTooGreat,
-        };
+        return stopped(Stop::IndexTooGreat);
     }
     if MOST_HEIGHT < depth + weight.height {
-        return At {
-            node: 0,
-            stop: Stop::TooHigh,
-        };
+        return stopped(Stop::TooHigh);
     }
     if most < weight.nodes {
-        return At {
-            node: 0,
-            stop: Stop::TooManyNodes,
-        };
+        return stopped(Stop::TooManyNodes);
     }
     if room.len() / 2 < work.used + weight.nodes as usize + depth as usize {
-        return At {
-            node: 0,
-            stop: Stop::Full,
-        };
+        return stopped(Stop::Full);
     }
     let made = put_in(room, &mut work.used, body, 0, argument);
-    work.budget = work.budget - 1;
+    work.budget -= 1;
     work.spare = most - weight.nodes;
     At {
         node: made,
@@ -80,20 +77,14 @@ fn contract_at_once(
     let w = room[2 * made];
     if MOST_HEIGHT < depth + nodes::height_of(w) {
         work.used = first;
-        return At {
-            node: 0,
-            stop: Stop::TooHigh,
-        };
+        return stopped(Stop::TooHigh);
     }
     let size = nodes::nodes_of(w);
     if most < size {
         work.used = first;
-        return At {
-            node: 0,
-            stop: Stop::TooManyNodes,
-        };
+        return stopped(Stop::TooManyNodes);
     }
-    work.budget = work.budget - 1;
+    work.budget -= 1;
     work.spare = most - size;
     At {
         node: made,
@@ -115,10 +106,7 @@ pub(crate) fn contract(
         → Contracted b a depth (lent work.old) room.old (told result work.new) room.new }
 {
     if work.budget == 0 {
-        return At {
-            node: 0,
-            stop: Stop::Spent,
-        };
+        return stopped(Stop::Spent);
     }
     let body = room[2 * function + 1] as usize;
     let w = room[2 * argument];

@@ -1,4 +1,5 @@
 // A node whose parts may have changed, made again only if they did.
+// one part or two: they stay two functions, since a part less is another law
 ghost use Rattle.std.specs.Prelude.{◌≡◌, ℕ};
 ghost use Rattle.calculus.specs.Term.{Term, lam, app};
 ghost use Rattle.engine.specs.Running.{Start};

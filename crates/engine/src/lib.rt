@@ -18,6 +18,7 @@ use orders::Order;
 use term::Refusal;
 
 // How the steps end: how many were made, and the node of the term reached.
+// stays beside Run, which tells the bytes: one type over what is reached would name its last field no better
 #[derive(Clone, Copy, Debug, PartialEq, Eq)]
 pub struct Reached {
     pub end: End,
@@ -27,6 +28,7 @@ pub struct Reached {
 
 // Why a run stops: no step is left; a contraction was made here; a step is left, and the budget is spent; the room is
 // full; or the next term is refused.
+// stays an enum with three refusals of its own: a Refusal in a case takes three words, and the answer goes in registers
 #[derive(Clone, Copy, Debug, PartialEq, Eq)]
 pub(crate) enum Stop {
     Rested,
@@ -38,7 +40,8 @@ pub(crate) enum Stop {
     IndexTooGreat,
 }
 
-// The node that a part has become, and why the run stops there.
+// The node that a part has become, and why the run stops there; where nothing was contracted, no node: 0.
+// stays a struct: node and reason are told together, and a Result of both, three words, went through memory
 #[derive(Clone, Copy, Debug, PartialEq, Eq)]
 pub(crate) struct At {
     pub(crate) node: usize,
@@ -81,7 +84,8 @@ fn run_all(cap: usize, order: Order, store: &mut [u64], work: &mut Work) -> At
         × (work.old.used ≡ nodes t) }
     ensures { (t : Term) → Rooted t cap (standing (work.old.used - 1) work.old) store.old
         → work.old.used ≡ nodes t
-        → Ended (order_of order) t cap (standing (work.old.used - 1) work.old) (told result work.new) store.old store.new }
+        → Ended (order_of order) t cap (standing (work.old.used - 1) work.old) (told result work.new)
+        store.old store.new }
 {
     loop {
         let q = run_first(cap, order, store, work, work.used - 1);

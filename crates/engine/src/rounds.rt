@@ -1,4 +1,5 @@
 // Steps by an order in a part of a term, as deep as the part lies: the recursion stays where the work is.
+// room, work, order, node and depth stay apart: what goes in registers would go through memory at each call
 ghost use Rattle.calculus.specs.Term.{Term, lam, app};
 ghost use Rattle.orders.specs.Orders.{order_of};
 ghost use Rattle.engine.specs.States.{standing, lent, told};

@@ -23,8 +23,8 @@ pub record Read (s : List ℕ) (at used deep next made : ℕ) (room : List ℕ) 
   pub holds : Holds room term (made - 1)
 
 -- an offset that is answered tells of such a term; in any case the nodes before are as they were
-pub record Reads (s : List ℕ) (at : ℕ) (before : List ℕ) (used cap deep : ℕ) (next : Option ℕ) (made : ℕ) (after : List ℕ)
-    : Type 0 where
+pub record Reads (s : List ℕ) (at : ℕ) (before : List ℕ) (used cap deep : ℕ) (next : Option ℕ) (made : ℕ)
+    (after : List ℕ) : Type 0 where
   pub same : Same before after used
   pub grows : used ≤ made
   pub few : made ≤ cap

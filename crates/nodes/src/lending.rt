@@ -11,17 +11,11 @@ use term::Refusal;
 pub fn grant(cap: u64, output: usize, room: usize) -> Result<usize, Refusal>
     ensures { told result ≡ granting cap output room }
 {
-    if cap < 1 {
-        return Err(Refusal::OutsideBounds);
-    }
-    if MOST_NODES < cap {
+    if cap < 1 || MOST_NODES < cap {
         return Err(Refusal::OutsideBounds);
     }
     let most = cap as usize;
-    if output < OUTPUT_PER_NODE * most {
-        return Err(Refusal::TooLittleRoom);
-    }
-    if room < ROOM_PER_NODE * most {
+    if output < OUTPUT_PER_NODE * most || room < ROOM_PER_NODE * most {
         return Err(Refusal::TooLittleRoom);
     }
     Ok(most)

@@ -24,6 +24,7 @@ const NODES: u64 = 4;
 
 const HEIGHT: u64 = 1048576;
 
+// What one more in the bound on free indices comes to: raising adds so much for each.
 pub const FREE: u64 = 1073741824;
 
 const NORMAL: u64 = 1099511627776;
@@ -36,30 +37,35 @@ pub const UNKNOWN: u64 = 1023;
 const RIGHT: u64 = 4294967296;
 
 // 1 for a variable, 2 for an abstraction, 3 for an application, as in coded bytes.
+// stays a number, and so do the facts below: the room is lent as numbers
 pub fn kind_of(w: u64) -> u64
     ensures { result ≡ kind_in w }
 {
     w % 4
 }
 
+// How many nodes the node's term has.
 pub fn nodes_of(w: u64) -> u64
     ensures { result ≡ nodes_in w }
 {
     w / NODES % 262144
 }
 
+// The height of the node's term.
 pub fn height_of(w: u64) -> u64
     ensures { result ≡ height_in w }
 {
     w / HEIGHT % 1024
 }
 
+// A bound on the free indices of the node's term, or UNKNOWN.
 pub fn free_of(w: u64) -> u64
     ensures { result ≡ free_in w }
 {
     w / FREE % 1024
 }
 
+// 1 if the node's term is known to be normal, 0 if not, as it stands in the number; `is_normal` is the test.
 pub fn normal_of(w: u64) -> u64
     ensures { result ≡ normal_in w }
 {
@@ -73,13 +79,14 @@ pub fn is_normal(w: u64) -> bool
     normal_of(w) == 1
 }
 
-// The parts that a second number holds.
+// The left part that a second number holds.
 pub fn left_of(x: u64) -> usize
     ensures { result ≡ x % 4294967296 }
 {
     (x % RIGHT) as usize
 }
 
+// The right part that a second number holds.
 pub fn right_of(x: u64) -> usize
     ensures { result ≡ x / 4294967296 }
 {
@@ -118,6 +125,7 @@ pub fn pair(left: usize, right: usize) -> u64
 }
 
 // Both numbers of a node; the number of the next one is returned.
+// room and used stay apart, here and above: the room is lent, and a struct of both went through memory at each call
 pub fn put(room: &mut [u64], used: usize, w: u64, x: u64) -> usize
     requires { 2 * used + 2 ≤ length room.old }
     ensures { (result ≡ used + 1)
@@ -128,6 +136,8 @@ pub fn put(room: &mut [u64], used: usize, w: u64, x: u64) -> usize
     used + 1
 }
 
+// A first number, of its parts.
+// stays numbers: the room is lent as numbers, and `normal` is a bit of one
 fn pack(kind: u64, nodes: u64, height: u64, free: u64, normal: u64) -> u64
     requires { (kind < 4) × (nodes < 262144) × (height < 1024) × (free < 1024) × (normal < 2) }
     ensures { result ≡ packed kind nodes height free normal }
@@ -148,7 +158,8 @@ fn lower(free: u64) -> u64
     free - 1
 }
 
-// Whether an application is normal, from its parts' first numbers.
+// 1 if an application is normal, else 0, from its parts' first numbers.
+// stays a number: it is a bit of the first number, and the room is lent as numbers
 #[tactic(auto, using(crate::proofs::Making::number_tests))]
 fn settle(a: u64, b: u64) -> u64
     ensures { result ≡ settled a b }
@@ -209,7 +220,7 @@ pub fn make_application(room: &mut [u64], used: usize, left: usize, right: usize
 }
 
 // The offset after a term that was loaded, and the number of the next node: the term is the node before it.
-#[derive(Clone, Copy)]
+#[derive(Clone, Copy, Debug, PartialEq, Eq)]
 pub struct Loaded {
     pub next: usize,
     pub used: usize,
@@ -256,6 +267,7 @@ pub fn put_index(out: &mut [u8], at: usize, index: u64) -> usize
 }
 
 // The bytes of the term that a node is; the place after them is returned. Only left parts are calls.
+// 1, 2 and 3 stay numbers: they are the coded bytes themselves, which C reads
 pub fn save(room: &[u64], node: usize, out: &mut [u8], at: usize) -> usize
     requires { Savable room.now node out.old at }
     ensures { Saves room.now node out.old at result out.new }

@@ -20,6 +20,7 @@ use substitution::weighing::weigh;
 use term::Refusal;
 
 // IndexTooGreat, TooHigh, then TooManyNodes, of the contraction with this body; its bytes, if it is within the bounds.
+// stays beside the engine's tests: there the depth counts too, and the answer is a Stop, which goes in registers
 #[tactic(auto, using(crate::proofs::Contracting::contractions))]
 fn contract(
     cap: usize,
@@ -48,7 +49,9 @@ fn contract(
     Ok(nodes::save(store, made, out, 0))
 }
 
-// All that comes after 1 and 2: the abstraction's refusals, the argument's, 11, then the contraction.
+// All that comes after OutsideBounds and TooLittleRoom: the abstraction's refusals, the argument's, NotAbs, then the
+// contraction.
+// cap, out and store stay apart, here and in `reducing`: each is passed on as it is lent, and a struct is no plainer
 fn work(cap: usize, s: &[u8], u: &[u8], out: &mut [u8], store: &mut [u64]) -> Result<usize, Refusal>
     requires { Lent cap out.old store.old }
     ensures { Works (stored (applied cap s.now u.now then coded) out.old)
@@ -65,6 +68,7 @@ fn work(cap: usize, s: &[u8], u: &[u8], out: &mut [u8], store: &mut [u64]) -> Re
 }
 
 // OutsideBounds, TooLittleRoom, then the work, after which the room is cleared.
+// stays beside `reduce`: the work as a closure would have to hold the output, which is no plainer
 pub fn apply(
     cap: u64,
     s: &[u8],

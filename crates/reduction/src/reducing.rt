@@ -66,6 +66,7 @@ pub fn allowed(limit: u64) -> bool
 }
 
 // OutsideBounds, TooLittleRoom, then the work, after which the room is cleared.
+// stays beside `apply`: the work as a closure would have to hold the output, which is no plainer
 pub fn reduce(
     order: Order,
     limit: u64,

@@ -1,4 +1,5 @@
 // What a contraction will give, before anything is written: its height, its nodes and whether an index grows too great.
+ghost use Rattle.std.specs.Prelude.{◌≡◌};
 ghost use Rattle.substitution.specs.Weighing.{Measurable, Measures, Overflowable, Overflows, Occurring, Bursts};
 ghost use Rattle.substitution.specs.Weighing.{Weighable, Weighs};
 
@@ -7,11 +8,22 @@ use nodes::{Node, UNKNOWN};
 
 // How often the argument is put in, the greatest depth at which it is (0 for none), and the height afterwards.
 // `deepest` stays a number: as an Option, a fourth word, it made the walk a tenth slower
-#[derive(Clone, Copy)]
+#[derive(Clone, Copy, Debug, PartialEq, Eq)]
 struct Measured {
     copies: u64,
     deepest: u64,
     height: u64,
+}
+
+// Where the argument is not put in.
+fn nowhere(height: u64) -> Measured
+    ensures { result ≡ record { copies = 0; deepest = 0; height = height } }
+{
+    Measured {
+        copies: 0,
+        deepest: 0,
+        height,
+    }
 }
 
 // Of a term under so many binders, for an argument of some height.
@@ -21,11 +33,7 @@ fn measure(room: &[u64], node: usize, depth: u64, height: u64) -> Measured
 {
     let w = room[2 * node];
     if nodes::free_of(w) <= depth {
-        return Measured {
-            copies: 0,
-            deepest: 0,
-            height: nodes::height_of(w),
-        };
+        return nowhere(nodes::height_of(w));
     }
     match nodes::node_at(room, node) {
         Node::Variable(index) => {
@@ -36,11 +44,7 @@ fn measure(room: &[u64], node: usize, depth: u64, height: u64) -> Measured
                     height,
                 };
             }
-            Measured {
-                copies: 0,
-                deepest: 0,
-                height: 1,
-            }
+            nowhere(1)
         }
         Node::Abstraction(b) => {
             let body = measure(room, b, depth + 1, height);
@@ -72,18 +76,10 @@ fn overflows(room: &[u64], node: usize, amount: u64, depth: u64) -> bool
         return false;
     }
     match nodes::node_at(room, node) {
-        Node::Variable(index) => {
-            if index <= depth {
-                return false;
-            }
-            GREATEST_NUMBER - amount < index
-        }
+        Node::Variable(index) => depth < index && GREATEST_NUMBER - amount < index,
         Node::Abstraction(b) => overflows(room, b, amount, depth + 1),
         Node::Application(l, r) => {
-            if overflows(room, l, amount, depth) {
-                return true;
-            }
-            overflows(room, r, amount, depth)
+            overflows(room, l, amount, depth) || overflows(room, r, amount, depth)
         }
     }
 }
@@ -93,15 +89,13 @@ fn bursts(room: &[u64], argument: usize, deepest: u64) -> bool
     requires { Occurring room.now argument deepest }
     ensures { Bursts room.now argument deepest result }
 {
-    if deepest == 0 {
-        return false;
-    }
-    overflows(room, argument, deepest - 1, 0)
+    0 < deepest && overflows(room, argument, deepest - 1, 0)
 }
 
 // What a contraction gives: how often the argument is put in, whether an index grows past the greatest number, the
 // height, the nodes.
-#[derive(Clone, Copy)]
+// `bursts` stays a flag beside the measures: they are right whether it is set or not, and an Option would say less
+#[derive(Clone, Copy, Debug, PartialEq, Eq)]
 pub struct Weight {
     pub copies: u64,
     pub bursts: bool,

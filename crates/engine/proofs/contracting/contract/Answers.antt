@@ -1,13 +1,13 @@
 -- `engine::contracting::contract` meets its contract: where it may be made at once, by the laws of `AtOnce`.
 use native.Mathlib.Omega.{arith}
 use borrow.Author.Rules.{rules}
-use mathlib.Core.Path.{refl}
+use Rattle.engine.proofs.Contractions.{told_of}
 use Rattle.engine.proofs.AtOnce.{at_spent, body-inside, contractible, assured}
 use Rattle.engine.proofs.contracting.contract.Goals as goal
 
 pub returns-then-work-eq0 : goal.returns-then-work-eq0
 returns-then-work-eq0 c b a redex =
-    at_spent redex c.if-work-eq0.true refl
+    at_spent redex c.if-work-eq0.true (told_of c.stopped.ensures)
 
 pub overflow_mul-body-2 : goal.overflow_mul-body-2
 overflow_mul-body-2 c =

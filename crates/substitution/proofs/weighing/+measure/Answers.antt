@@ -8,7 +8,7 @@ use Rattle.substitution.proofs.weighing.+measure.Goals as goal
 
 pub returns-then-free_of-depth : goal.returns-then-free_of-depth
 returns-then-free_of-depth t c =
-    at_shared c.requires (omega arith) c.height_of.ensures
+    rw c.nowhere.ensures (at_shared c.requires (omega arith) c.height_of.ensures)
 
 pub returns-then-index-depth : goal.returns-then-index-depth
 returns-then-index-depth t c =
@@ -16,7 +16,7 @@ returns-then-index-depth t c =
 
 pub returns-else-index-depth : goal.returns-else-index-depth
 returns-else-index-depth t c =
-    at_other c.requires c.node_at.ensures c.in-Variable.is c.if-index-depth.false
+    rw c.nowhere-in-Variable.ensures (at_other c.requires c.node_at.ensures c.in-Variable.is c.if-index-depth.false)
 
 pub measure-body-requires : goal.measure-body-requires
 measure-body-requires t c =
