@@ -1,4 +1,4 @@
--- Which named term a node of the room is: two numbers, the first of which has its kind.
+-- Which named term a node of the room is, and how its two numbers are read, put, and when a node fits them.
 use Rattle.std.specs.Prelude.{ℕ, ◌+◌, ◌*◌, ◌/◌, ◌%◌, ◌<◌, ◌≡◌, Bool, cond, eqb, List, if◌then◌else◌, ◌==◌, ⊤}
 use Rattle.nodes.specs.Store.{word, link}
 use Rattle.eta.specs.Named.{Named, bound, loose, binds, joins, uses, has_zero, lone}

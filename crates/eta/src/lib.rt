@@ -29,6 +29,7 @@ const LEVELS: usize = 512;
 const FEW_LEVELS: usize = 32;
 
 // The steps, of an input that is a whole term within the bounds. They are never refused.
+// Output and store stay apart, and `Lent` a clause: C lends two slices, and a struct for four calls is no plainer.
 fn contract_places(
     cap: usize,
     limit: u64,
@@ -101,6 +102,7 @@ fn work(cap: usize, limit: u64, s: &[u8], out: &mut [u8], store: &mut [u64]) -> 
 }
 
 // OutsideBounds, TooLittleRoom, then the work, after which the room is cleared. Limit 0 is none.
+// Grant, work and clear stay written out: a closure for the work would have to hold the output, no plainer.
 pub fn eta(limit: u64, cap: u64, s: &[u8], out: &mut [u8], room: &mut [u64]) -> Result<Run, Stopped>
     ensures { (run_told result, out.new, room.new)
         ≡ eta_of limit cap s.now out.old room.old }

@@ -18,14 +18,15 @@ const LINEAR: u64 = 4;
 
 const LEVEL: u64 = 8;
 
-// A binder's level is how many stood above it; it is linear if it is named once and index 0 is not in the body.
+// A binder's level is how many stood above it; it is linear if it is named once and index 0 is not in the body. Both
+// are meant at once: an Option of the level is no plainer.
 #[derive(Clone, Copy, Debug, PartialEq, Eq)]
 pub(crate) struct Binder {
     pub(crate) level: usize,
     pub(crate) linear: bool,
 }
 
-// A variable by its binder's level or by its number if it is free (or index 0), and the nodes of a body or of two parts.
+// A variable by its binder's level, or by its number if it is free (or index 0); the node of a body, or of two parts.
 #[derive(Clone, Copy, Debug, PartialEq, Eq)]
 pub(crate) enum Node {
     Bound(usize),
@@ -35,6 +36,7 @@ pub(crate) enum Node {
 }
 
 // What a node is: its numbers are read here alone.
+// The room's length stays a clause: the room is lent as numbers by C, and `used` goes in a register.
 pub(crate) fn named_at(room: &[u64], node: usize) -> Node
     requires { 2 * node + 2 ≤ length room.now }
     ensures read { result ≡ node_in (word room.now node) (link room.now node) }

@@ -11,7 +11,8 @@ use crate::named::{Binder, Node, put_named};
 use term::Head;
 
 // The offset after a term, the number of the next node (the term is the one before it), and whether index 0 is in it.
-#[derive(Clone, Copy)]
+// All three are meant at once: an Option is no plainer.
+#[derive(Clone, Copy, Debug, PartialEq, Eq)]
 pub(crate) struct Read {
     pub(crate) next: usize,
     pub(crate) used: usize,
@@ -38,6 +39,7 @@ fn name(room: &mut [u64], used: usize, counts: &mut [u64], depth: usize, index: 
 }
 
 // The term whose bytes stand at an offset, under so many binders, made of new nodes.
+// The parameters stay apart, here and in `write`: a struct goes through memory at every call of a recursion.
 pub(crate) fn load(
     s: &[u8],
     at: usize,

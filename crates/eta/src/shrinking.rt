@@ -13,21 +13,21 @@ pub(crate) struct Work {
     pub(crate) steps: u64,
 }
 
-// The node that a term came to, and whether the limit left a place.
+// The node that a term came to, and whether the limit left a place. Both are meant at once: an Option is no plainer.
 #[derive(Clone, Copy, Debug, PartialEq, Eq)]
 pub(crate) struct Shrunk {
     pub(crate) node: usize,
     pub(crate) left: bool,
 }
 
-// Whether one more step may follow: limit 0 is none.
+// Whether one more step may follow. Limit 0 is none and stays a number: so C gives it, and `eta_of limit` has it.
 fn may_follow(limit: u64, steps: u64) -> bool
     ensures { result ≡ may_follow limit steps }
 {
     limit == 0 || steps < limit
 }
 
-// What is left of an abstraction with this body if its binder goes: it is linear, and the body applied to it.
+// What is left of an abstraction with this body if it is a place: its binder is linear, and the body applies that to it.
 fn contracted(room: &[u64], binder: Binder, body: usize) -> Option<usize>
     requires { Checkable room.now body }
     ensures { Contracts room.now binder body result }

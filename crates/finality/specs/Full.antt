@@ -1,4 +1,4 @@
--- The orders that never finish one input with different terms: they reduce to normal forms.
+-- The orders that reduce to normal forms; no two of them finish one input with different terms.
 use Rattle.calculus.specs.Orders.{Order, APP, NOR, HNO, HAP}
 
 pub data Full : Order → Type 0 where

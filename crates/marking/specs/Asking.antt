@@ -7,7 +7,7 @@ use Rattle.term.specs.Notations.{notation_of}
 use Rattle.orders.specs.Orders.{order_of}
 use Rattle.marking.specs.declared.asking.Job.{Job}
 
--- what an answer, if there is one, is by a function
+-- an answer's value through a function, if there is one, as an Option of the definitions
 abbrev pub said : {A B : Type 0} → (A → B) → std.Option A → Option B
 said f std.None = none
 said f (std.Some a) = some (f a)

@@ -19,7 +19,8 @@ pub(crate) struct Job<'a> {
     pub(crate) text: &'a [u8],
 }
 
-// The order, and the notation, that a word names.
+// The order that a word names.
+// It and `named_notation` stay two rows of tests: one function for both would take a table of words and values, no plainer.
 #[tactic(auto, using(crate::proofs::Naming::unnamed), unfolding(calculus::specs::Program::look_up, calculus::specs::Program::order_words))]
 fn named_order(word: &[u8]) -> Option<Order>
     ensures { said order_of result ≡ look_up order_words word.now }
@@ -48,6 +49,7 @@ fn named_order(word: &[u8]) -> Option<Order>
     None
 }
 
+// The notation that a word names.
 #[tactic(auto, using(crate::proofs::Naming::unnamed), unfolding(calculus::specs::Program::look_up, calculus::specs::Program::notation_words))]
 fn named_notation(word: &[u8]) -> Option<Notation>
     ensures { said notation_of result ≡ look_up notation_words word.now }

@@ -63,6 +63,7 @@ fn reduce(
         (report (notation_of notation) (reduced (order_of order) limit program_cap s.now))
         result out.new }
 {
+    // an array, as below: no heap
     let mut reached = [0u8; OUTPUT];
     match reduction::reducing::reduce(order, limit, CAP, s, &mut reached, room) {
         Ok(run) => {
@@ -76,7 +77,7 @@ fn reduce(
     }
 }
 
-// What the first line asks for, of the text after it: a limit out of bounds comes before the text is read.
+// What the first line asks for, of the text after it: a limit out of bounds is refused before the text is read.
 fn do_job(job: Job, out: &mut [u8]) -> usize
     requires { most_output ≤ length out.old }
     ensures { Puts out.old 0 (done (job_of job.entry)) result out.new }

@@ -31,6 +31,7 @@ fn put_decimal(out: &mut [u8], to: usize, most: u64, number: u64) -> usize
     put(out, last, b'0' + (number % 10) as u8)
 }
 
+// A word, a space, a number and a line feed.
 #[tactic(auto, using(crate::proofs::Decimals::decimal))]
 pub(crate) fn put_line(out: &mut [u8], word: &[u8], number: u64) -> usize
     requires { length word.now ≤ most_word }
@@ -42,6 +43,7 @@ pub(crate) fn put_line(out: &mut [u8], word: &[u8], number: u64) -> usize
     put(out, end, b'\n')
 }
 
+// The line of a refusal, by its number.
 #[tactic(auto, unfolding(calculus::specs::Characters::codes, calculus::specs::Numbers::numeral))]
 pub(crate) fn put_refusal(out: &mut [u8], why: Refusal) -> usize
     ensures { Puts out.old 0 (refused_line (refusal_of why)) result out.new }

@@ -23,6 +23,7 @@ fn show_answers(rt: &impl Print, input: &[u8]) -> io::Result<()> {
 }
 
 fn main(rt: HostRuntime) -> io::Result<()> {
+    // an array: no heap
     let mut input = [0u8; 65536];
     let length = read_full(&mut rt.reader(), &mut input)?;
     show_answers(&rt, &input[..length])

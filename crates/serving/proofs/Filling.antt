@@ -1,11 +1,17 @@
--- What a read brings behind what is there already: both together are what the reader had first.
+-- What a read brings behind what is there already: both together are what the reader had first; and that a buffer keeps
+-- its length.
 use Rattle.std.proofs.Common.{ℕ, ◌+◌, ◌-◌, ◌≤◌, ◌≡◌, List, ◌++◌, length, take, sym, ap, ap₂, ◌∙◌, subst, le_refl, drop_at, length-take-le}
 use Rattle.std.specs.Prelude.{Option}
 use Rattle.std.specs.Io.KnownBytes.{Consumes}
 use Rattle.std.proofs.KnownBytes.{Consumes-trans}
 use Rattle.std.proofs.lemmas.Slice.{take-put_mid_below}
-use borrow.Rule.Slice.PartMut.{put_mid, post_of}
+use borrow.Rule.Slice.PartMut.{mid_of, put_mid, post_of, same_len_mid}
 use lib.Seq.{take-add, take-append-le}
+
+-- a buffer whose end was lent
+pub as_long : (from : ℕ) (buf part : List ℕ) → length part ≡ length (mid_of from (length buf - from) buf)
+    → length (put_mid from (length buf - from) buf part) ≡ length buf
+as_long from buf part e = same_len_mid from (length buf - from) buf part e
 
 module _ (buf part : List ℕ) (from n : ℕ) (within : from ≤ length buf) (fits : n ≤ length part) where
   abbrev after : List ℕ

@@ -1,4 +1,4 @@
-// Around the program's work: standard input is read, marked, and the answer written to standard output.
+// Around the program's work: reading as much as comes, and standard input marked, the answer to standard output.
 #![tactic(auto)]
 
 ghost use Rattle.std.specs.Prelude.{◌<◌, length, take, IfOk};
@@ -14,6 +14,7 @@ const INPUT: usize = 65537;
 
 // What the reader has, as far as there is room for it, and how many bytes that is. A read may bring less than there is,
 // so reading goes on until the buffer is full or the input ends; an error ends it, whatever came before.
+// It stays a loop: `read_to_end` wants a Vec, and there is no heap; `read_exact` refuses a short input.
 pub fn read_full<R: Read>(reader: &mut R, buf: &mut [u8]) -> io::Result<usize>
     ensures bound { ReadsAtMost result buf.new }
     ensures bytes { IfOk result (λ n. Consumes (R.remaining reader.old) (R.remaining reader.new) (take n buf.new)) }
@@ -30,6 +31,7 @@ pub fn read_full<R: Read>(reader: &mut R, buf: &mut [u8]) -> io::Result<usize>
     Ok(done)
 }
 
+// The answer to an input, in an array, as `serve` has the input in one: no heap.
 fn answer(rt: &(impl Print + Eprint), input: &[u8]) -> io::Result<()> {
     let mut out = [0u8; MOST_OUTPUT];
     let length = marking::mark(input, &mut out);
