@@ -1,5 +1,6 @@
 -- Terms whose variables name their binders, so that nothing moves when a binder goes.
-use Rattle.std.specs.Prelude.{ℕ, zero, suc, ◌+◌, ◌-◌, max, Bool, false, not, ◌&&◌, ◌||◌, cond, List, [], ◌∷◌, leb, eqb, length}
+use Rattle.std.specs.Prelude.{ℕ, zero, suc, ◌+◌, ◌-◌, max, leb, eqb, List, [], ◌∷◌, length}
+use Rattle.std.specs.Prelude.{Bool, false, not, ◌&&◌, ◌||◌, cond}
 use Rattle.calculus.specs.Term.{Term, var, lam, app}
 
 -- a binder's name is its level: how many binders stood above it in the input

@@ -27,7 +27,8 @@ fn may_follow(limit: u64, steps: u64) -> bool
     limit == 0 || steps < limit
 }
 
-// What is left of an abstraction with this body if it is a place: its binder is linear, and the body applies that to it.
+// What is left of an abstraction with this body if it is a place: its binder is linear, and the body applies
+// that to it.
 fn contracted(room: &[u64], binder: Binder, body: usize) -> Option<usize>
     requires { Checkable room.now body }
     ensures { Contracts room.now binder body result }

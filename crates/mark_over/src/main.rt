@@ -1,4 +1,4 @@
-// The program `mark`, run on 65,537 bytes, which are one too many. It stays a twin: a program has one input for its test.
+// The program `mark`, run on 65,537 bytes, one too many. It stays a twin: a program has one input for its test.
 #![tactic(auto)]
 
 use std::io;

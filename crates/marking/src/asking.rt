@@ -20,7 +20,7 @@ pub(crate) struct Job<'a> {
 }
 
 // The order that a word names.
-// It and `named_notation` stay two rows of tests: one function for both would take a table of words and values, no plainer.
+// It and `named_notation` stay two rows of tests: one function would take a table of words and values, no plainer.
 #[tactic(auto, using(crate::proofs::Naming::unnamed), unfolding(calculus::specs::Program::look_up, calculus::specs::Program::order_words))]
 fn named_order(word: &[u8]) -> Option<Order>
     ensures { said order_of result ≡ look_up order_words word.now }

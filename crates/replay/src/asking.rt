@@ -1,5 +1,5 @@
 // What a line asks for, and the call.
-use crate::lines::{cut, decimal, which};
+use crate::lines::{cut, number, which};
 use crate::terms::Inputs;
 use copperjangle::Answer;
 use std::ops::RangeInclusive;
@@ -52,7 +52,7 @@ impl Call {
     }
 }
 
-// The numbers of the notations or orders that are asked for.
+// The numbers of the notations or orders that are asked for. It stays an enum: `All` is a wish, which None would hide.
 #[derive(Clone, Copy, Debug, PartialEq, Eq)]
 pub(crate) enum Orders {
     One(u64),
@@ -60,7 +60,7 @@ pub(crate) enum Orders {
 }
 
 impl Orders {
-    // One that is none is asked for by a number that is none.
+    // One that is none stays a number that is none: copperjangle is asked, and refuses it, as the program always did.
     fn named(call: Call, word: &[u8]) -> Orders {
         if word == b"ALL".as_slice() {
             return Orders::All;
@@ -80,7 +80,8 @@ impl Orders {
     }
 }
 
-#[derive(Clone, Copy)]
+// A line's words.
+#[derive(Clone, Copy, Debug, PartialEq, Eq)]
 pub(crate) struct Asked<'a> {
     pub(crate) call: Call,
     pub(crate) orders: Orders,
@@ -90,6 +91,7 @@ pub(crate) struct Asked<'a> {
 }
 
 // Between the word of the entry point and the inputs there may stand a name and a limit.
+// The matches on a call, here and below, stay: each entry point has parameters of its own, and a table is no plainer.
 pub(crate) fn read(line: &[u8]) -> Option<Asked<'_>> {
     let (word, after) = cut(line, b' ');
     let call = Call::named(word)?;
@@ -106,11 +108,12 @@ pub(crate) fn read(line: &[u8]) -> Option<Asked<'_>> {
     Some(Asked {
         call,
         orders: Orders::named(call, name),
-        limit: decimal(limit),
+        limit: number(limit, 10),
         inputs,
     })
 }
 
+// The call.
 pub(crate) fn answer(
     asked: Asked,
     name: u64,

@@ -1,6 +1,6 @@
 // What is lent to a call, and what became of it.
 use crate::asking::Call;
-use crate::lines::{cut, decimal};
+use crate::lines::{cut, number};
 use calculus::{MOST_NODES, ROOM_PER_NODE};
 use copperjangle::Answer;
 use std::io;
@@ -23,9 +23,9 @@ pub(crate) fn read(line: &[u8], lent: Lent) -> Lent {
     let (bytes, after) = cut(after, b' ');
     let (numbers, _) = cut(after, b' ');
     Lent {
-        cap: decimal(cap),
-        bytes: decimal(bytes) as usize,
-        numbers: decimal(numbers) as usize,
+        cap: number(cap, 10),
+        bytes: number(bytes, 10) as usize,
+        numbers: number(numbers, 10) as usize,
     }
 }
 
@@ -34,7 +34,7 @@ pub(crate) const FILLED: u8 = 126;
 
 pub(crate) const FILLED_NUMBER: u64 = 7;
 
-// The bytes of output that are the answer.
+// The bytes of output that are the answer. Refusals stay numbers, here and below: an Answer is the C interface's.
 pub(crate) fn written(call: Call, answer: Answer, out: &[u8]) -> &[u8] {
     if answer.refusal != 0 || !call.writes() {
         return &[];

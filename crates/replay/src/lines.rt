@@ -1,7 +1,7 @@
 // The words of a line, the numbers that they say, and bytes put into a buffer.
 ghost use Rattle.std.specs.Prelude.{◌≤◌, length};
 
-// Writes a byte and moves on; at the end of the buffer it does neither.
+// Writes a byte and moves on; at the end of the buffer it does neither. Buffer and place stay two: a Vec wants a heap.
 pub(crate) fn put(buf: &mut [u8], at: usize, b: u8) -> usize
     requires { at ≤ length buf.old }
     ensures { (at ≤ result) × (result ≤ length buf.new) }
@@ -29,7 +29,7 @@ pub(crate) fn which(names: &[u8], word: &[u8]) -> Option<usize> {
     names.split(|&b| b == b' ').position(|name| name == word)
 }
 
-// A digit's value, up to f.
+// A digit's value, up to f. It stays written out: `to_digit` takes A to F as well, which are no digits of a line.
 pub(crate) fn digit(b: u8) -> Option<u64> {
     match b {
         b'0'..=b'9' => Some(u64::from(b - b'0')),
@@ -51,16 +51,12 @@ fn read_on(read: u64, digits: &[u8], base: u64) -> Option<u64> {
     Some(value)
 }
 
-// A word that says no such number is taken for 0.
-pub(crate) fn decimal(digits: &[u8]) -> u64 {
-    read_on(0, digits, 10).unwrap_or(0)
+// A word that says no such number stays a 0, as the program has always taken it.
+pub(crate) fn number(digits: &[u8], base: u64) -> u64 {
+    read_on(0, digits, base).unwrap_or(0)
 }
 
-pub(crate) fn hex(digits: &[u8]) -> u64 {
-    read_on(0, digits, 16).unwrap_or(0)
-}
-
-// The same of digits in two pieces.
+// The same of hex digits in two pieces.
 pub(crate) fn hex_across(first: &[u8], second: &[u8]) -> u64 {
     match read_on(0, first, 16) {
         Some(read) => read_on(read, second, 16).unwrap_or(0),

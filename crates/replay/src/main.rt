@@ -15,6 +15,7 @@ use std::io;
 use terms::Inputs;
 
 // One call, lent just what it is to be lent, which is full of a pattern, and its answer.
+// Output and room stay two parameters: `answer_each` lends a part of each, so a struct of both would be made twice.
 fn answer_one(
     rt: &impl Print,
     asked: Asked,
@@ -107,6 +108,7 @@ fn answer_input(
 }
 
 // A line takes as much as the longest text and some words; output and room are for 65,536 nodes, and five more of each.
+// They stay arrays: no heap.
 fn main(rt: HostRuntime) -> io::Result<()> {
     let mut input = [0u8; 393216];
     let mut work = [0u8; 2097280];

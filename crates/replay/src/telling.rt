@@ -1,6 +1,4 @@
 // The words of an answer: its six numbers, and what stands first in the output.
-ghost use Rattle.std.specs.Prelude.{◌≤◌};
-
 use crate::asking::Call;
 use copperjangle::Answer;
 use std::io;
@@ -24,7 +22,7 @@ fn tell_index(rt: &impl Print, index: u64) -> io::Result<()> {
     print!(rt; "[{index:x}]")
 }
 
-// A term by marks, as questions have it.
+// A term by marks, as questions have it. The place stays counted: a node takes 1 or 9 bytes, so no iterator goes along.
 fn tell_term(rt: &impl Print, s: &[u8]) -> io::Result<()> {
     let mut at: usize = 0;
     while at < s.len() {

@@ -1,13 +1,11 @@
 // The inputs that a line writes: terms root first, a mark a node, are put as coded bytes behind the line.
-//
-// `\` is an abstraction, `@` an application, a hex digit a variable of that index; a greater index stands in brackets.
-// A word that begins with `=` has the coded bytes themselves.
 ghost use Rattle.std.specs.Prelude.{◌≤◌, length};
 
 use crate::asking::{Asked, Call};
-use crate::lines::{cut, digit, hex, hex_across, put};
+use crate::lines::{cut, digit, hex_across, number, put};
 
-#[derive(Clone, Copy)]
+// The inputs of a call; where it takes one, the second is not read.
+#[derive(Clone, Copy, Debug, PartialEq, Eq)]
 pub(crate) struct Inputs<'a> {
     pub(crate) first: &'a [u8],
     pub(crate) second: &'a [u8],
@@ -35,14 +33,15 @@ fn bracketed<'a>(marks: &'a [u8], behind: &[u8], spaced: bool) -> (u64, &'a [u8]
     ensures { length result.1.now ≤ length marks.now }
 {
     match marks.iter().position(|&b| b == b']') {
-        Some(at) => (hex(&marks[..at]), &marks[at + 1..]),
+        Some(at) => (number(&marks[..at], 16), &marks[at + 1..]),
         None if spaced => (0, &[]),
         None => (hex_across(marks, cut(behind, b']').0), &[]),
     }
 }
 
-// The bytes of a term's marks, put from a place on as far as there is room, and where they end. Any other mark is a
-// variable.
+// The bytes of a term's marks, put from a place on as far as there is room, and where they end: `\` is an abstraction,
+// `@` an application, a hex digit a variable of that index, and a greater index stands in brackets. Any other mark stays
+// the variable 16, as the program has always taken it.
 fn put_term(free: &mut [u8], from: usize, marks: &[u8], spaced: bool) -> usize
     requires { from ≤ length free.old }
     ensures { (from ≤ result) × (result ≤ length free.new) }

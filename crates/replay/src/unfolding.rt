@@ -1,9 +1,10 @@
 // A line as it is meant: `%` and two hex digits are a byte, `{piece}9;` so many pieces.
 ghost use Rattle.std.specs.Prelude.{◌≤◌, length};
 
-use crate::lines::{cut, decimal, hex, put};
+use crate::lines::{cut, number, put};
 
 // The first of so many pieces stands between two places, and the others are put behind it.
+// It goes by places still: an iterator over the piece would hold the buffer that is written.
 fn repeat(work: &mut [u8], from: usize, end: usize, count: u64) -> usize
     requires { end ≤ length work.old }
     ensures { result ≤ length work.new }
@@ -30,7 +31,7 @@ pub(crate) fn unfold(line: &[u8], work: &mut [u8]) -> usize
         match b {
             b'%' => {
                 let (digits, after) = left.split_at(left.len().min(2));
-                to = put(work, to, (hex(digits) % 256) as u8);
+                to = put(work, to, (number(digits, 16) % 256) as u8);
                 left = after;
             }
             b'{' => {
@@ -38,7 +39,7 @@ pub(crate) fn unfold(line: &[u8], work: &mut [u8]) -> usize
             }
             b'}' => {
                 let (count, after) = cut(left, b';');
-                to = repeat(work, piece, to, decimal(count));
+                to = repeat(work, piece, to, number(count, 10));
                 left = after;
             }
             _ => {
