@@ -4,6 +4,7 @@ use Prim.Native.Nat.{ℕ, ◌+◌, ◌*◌, ◌≤◌, ◌<◌}
 use mathlib.Core.Path.{◌≡◌, refl, sym, ◌∙◌, ap, ap₂}
 use mathlib.Core.Bool.{Bool, true, false, ◌||◌}
 use mathlib.Core.List.{List}
+use mathlib.Core.Logic.{inl, inr}
 use native.Mathlib.Omega.{arith}
 use Rattle.calculus.specs.Eta.{may_follow}
 use Rattle.nodes.specs.Store.{Same, link}
@@ -13,7 +14,7 @@ use Rattle.eta.specs.Shrinking.{Came, again}
 use Rattle.eta.specs.Store.{Names, binder_word, node_at}
 use Rattle.eta.specs.declared.named.Binder.{Binder}
 use Rattle.eta.specs.declared.named.Node.TheVariants as read
-use Rattle.eta.specs.Shrinks.{State, StandsFor, Checkable, Contracts, Joinable, Joins, Bindable, Rebinds, Binds}
+use Rattle.eta.specs.Shrinks.{State, StandsFor, Checkable, Contracts, KeptOrPut, Joinable, Joins, Bindable, Rebinds, Binds}
 use Rattle.nodes.proofs.Stored.{Stored}
 use Rattle.eta.proofs.Remade.{binds-stored, joins-stored}
 use Rattle.eta.proofs.Parts.{named-abstraction, named-application}
@@ -38,7 +39,7 @@ module _ {room : List ℕ} {node : ℕ} {left right : State} (asked : Joinable r
     same = same;
   }
 
-  pub join_stays : node_at room node ≡ read.Application left.node right.node
+  join_stays : node_at room node ≡ read.Application left.node right.node
       → Joins room node left right
       (record { node = node; used = right.used; steps = right.steps; left = some }) room
   unfolding Names
@@ -49,7 +50,7 @@ module _ {room : List ℕ} {node : ℕ} {left right : State} (asked : Joinable r
       (kind, rw v.left_is v.left_below, rw v.right_is v.right_below, rw v.left_is first, rw v.right_is second))
       asked.below (omega arith) (omega arith) (same_refl room right.used)
 
-  pub join-made : {next : ℕ} {after : List ℕ} → next ≡ right.used + 1
+  join-made : {next : ℕ} {after : List ℕ} → next ≡ right.used + 1
       → Stored room after right.used 3 (left.node + 4294967296 * right.node)
       → Joins room node left right
       (record { node = right.used; used = next; steps = right.steps; left = some }) after
@@ -57,6 +58,12 @@ module _ {room : List ℕ} {node : ℕ} {left right : State} (asked : Joinable r
       let low : left.node < 4294967296 = omega (arith, asked.left_below, asked.few) in
       joined (λ l r. joins-stored new l r refl refl low asked.left_below asked.right_below) (omega arith)
       (omega arith) (omega arith) new.same
+
+  pub join-done : {r : State} {after : List ℕ}
+      → KeptOrPut room node (read.Application left.node right.node) some right.used right.steps r after
+      → Joins room node left right r after
+  join-done (inl (is, r_is, same)) = rw (r_is, same) (join_stays is)
+  join-done (inr (r_is, new)) = rw r_is (join-made refl new)
 
 -- AN ABSTRACTION
 module _ {room : List ℕ} {node : ℕ} {binder : Binder} {body : State} (asked : Bindable room node binder body) where
@@ -78,7 +85,7 @@ module _ {room : List ℕ} {node : ℕ} {binder : Binder} {body : State} (asked 
     same = same;
   }
 
-  pub rebind_stays : {left : Bool} → node_at room node ≡ read.Abstraction binder body.node
+  rebind_stays : {left : Bool} → node_at room node ≡ read.Abstraction binder body.node
       → Rebinds room node binder body left
       (record { node = node; used = body.used; steps = body.steps; left = left }) room
   unfolding Names
@@ -89,13 +96,19 @@ module _ {room : List ℕ} {node : ℕ} {binder : Binder} {body : State} (asked 
       rebound (λ b linear part. (rw (sym linear) v.word_is, rw at_body v.below, rw at_body part)) asked.below
       (omega arith) (omega arith) (same_refl room body.used)
 
-  pub rebind-made : {left : Bool} {next : ℕ} {after : List ℕ} → next ≡ body.used + 1
+  rebind-made : {left : Bool} {next : ℕ} {after : List ℕ} → next ≡ body.used + 1
       → Stored room after body.used (binder_word binder.level binder.linear) body.node
       → Rebinds room node binder body left
       (record { node = body.used; used = next; steps = body.steps; left = left }) after
   rebind-made end new =
       rebound (λ b linear. binds-stored new binder.level b (ap (binder_word binder.level) linear) asked.stands.below)
       (omega arith) (omega arith) (omega arith) new.same
+
+  pub rebind-done : {left : Bool} {r : State} {after : List ℕ}
+      → KeptOrPut room node (read.Abstraction binder body.node) left body.used body.steps r after
+      → Rebinds room node binder body left r after
+  rebind-done (inl (is, r_is, same)) = rw (r_is, same) (rebind_stays is)
+  rebind-done (inr (r_is, new)) = rw r_is (rebind-made refl new)
 
   pub bind_checks : Checkable room body.node
   bind_checks = record {

@@ -5,8 +5,11 @@ use Rattle.calculus.specs.Eta.{may_follow}
 use Rattle.nodes.specs.Store.{Same}
 use Rattle.eta.specs.Named.{Named, binds, joins, weight, lone}
 use Rattle.eta.specs.Shrinking.{Came, shrunk, again, beside, ends_in, applied}
-use Rattle.eta.specs.Store.{Names}
+use Rattle.nodes.proofs.Stored.{Stored}
+use mathlib.Core.Logic.{◌⊎◌}
+use Rattle.eta.specs.Store.{Names, node_at, word_of, link_of}
 use Rattle.eta.specs.declared.named.Binder.{Binder}
+use Rattle.eta.specs.declared.named.Node.{Node}
 use Rattle.eta.specs.declared.shrinking.Shrunk.{Shrunk}
 use Rattle.eta.specs.declared.shrinking.Work.{Work}
 
@@ -47,6 +50,15 @@ pub record Contracts (room : List ℕ) (binder : Binder) (body : ℕ) (r : Optio
   pub goes : (m : ℕ) → r ≡ Some m → (b : Named) → Names room b body
       → ((binder.linear && ends_in binder.level b) ≡ true) × (m < body) × Names room (applied b) m
   pub stays : r ≡ None → (b : Named) → Names room b body → (binder.linear && ends_in binder.level b) ≡ false
+
+-- A NODE WHOSE PARTS ARE DONE: it is kept if it says this already, and else put as the next one
+abbrev pub KeptOrPut : (before : List ℕ) (node : ℕ) (made : Node) (left : Bool) (used steps : ℕ) → State → List ℕ → Type 0
+KeptOrPut before node made left used steps r after =
+    ((node_at before node ≡ made)
+    × (◌≡◌ {A = State} r (record { node = node; used = used; steps = steps; left = left }))
+    × (after ≡ before))
+    ⊎ ((◌≡◌ {A = State} r (record { node = used; used = used + 1; steps = steps; left = left }))
+    × Stored before after used (word_of made) (link_of made))
 
 -- AN APPLICATION whose parts are done
 pub record Joinable (room : List ℕ) (node : ℕ) (left : ℕ) (right : State) : Type 0 where

@@ -1,8 +1,9 @@
 // Eta's sequence of places on nodes that name their binders: a contraction drops an abstraction; nothing else moves.
-ghost use Rattle.std.specs.Prelude.{◌≡◌};
+ghost use Rattle.std.specs.Prelude.{◌≡◌, ◌+◌, ◌*◌, ◌≤◌, length};
 ghost use Rattle.calculus.specs.Eta.{may_follow};
 ghost use Rattle.eta.specs.Shrinks.{Shrinkable, Shrinks, Checkable, Contracts, Joinable, Joins};
-ghost use Rattle.eta.specs.Shrinks.{Bindable, Rebinds, Binds, state};
+ghost use Rattle.eta.specs.Shrinks.{KeptOrPut, Bindable, Rebinds, Binds, state};
+ghost use Rattle.eta.specs.Store.{Packable};
 
 use crate::named::{Binder, Node, named_at, put_named};
 
@@ -46,6 +47,20 @@ fn contracted(room: &[u64], binder: Binder, body: usize) -> Option<usize>
     }
 }
 
+// A node whose parts are done: the same one if it says this already, and else a new one.
+fn kept_or_put(room: &mut [u64], work: &mut Work, node: usize, made: Node, left: bool) -> Shrunk
+    requires { (2 * node + 2 ≤ length room.old) × (2 * work.old.used + 2 ≤ length room.old) × Packable made }
+    ensures { KeptOrPut room.old node made left work.old.used work.old.steps
+        (state result work.new) room.new }
+{
+    if named_at(room, node) == made {
+        return Shrunk { node, left };
+    }
+    let next = work.used;
+    work.used = put_named(room, next, made);
+    Shrunk { node: next, left }
+}
+
 // An application whose parts are done: the same node if both stayed.
 fn join(room: &mut [u64], work: &mut Work, node: usize, first: Shrunk, second: Shrunk) -> Shrunk
     requires { Joinable room.old node first.node (state second work.old) }
@@ -54,12 +69,7 @@ fn join(room: &mut [u64], work: &mut Work, node: usize, first: Shrunk, second: S
 {
     let joined = Node::Application(first.node, second.node);
     let left = first.left || second.left;
-    if named_at(room, node) == joined {
-        return Shrunk { node, left };
-    }
-    let next = work.used;
-    work.used = put_named(room, next, joined);
-    Shrunk { node: next, left }
+    kept_or_put(room, work, node, joined, left)
 }
 
 // An abstraction that stays, whose body is done: the same node if the body stayed.
@@ -75,12 +85,7 @@ fn rebind(
     ensures { Rebinds room.old node binder (state body work.old) left (state result work.new) room.new }
 {
     let bound = Node::Abstraction(binder, body.node);
-    if named_at(room, node) == bound {
-        return Shrunk { node, left };
-    }
-    let next = work.used;
-    work.used = put_named(room, next, bound);
-    Shrunk { node: next, left }
+    kept_or_put(room, work, node, bound, left)
 }
 
 // An abstraction whose body is done: contracted if it now may be.
