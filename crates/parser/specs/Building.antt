@@ -10,10 +10,6 @@ use Rattle.parser.specs.declared.building.Part.TheVariants as part
 use Rattle.parser.specs.declared.building.Found.{Found}
 use Rattle.parser.specs.declared.building.Built.{Built}
 
--- a term, and its node counted
-abbrev pub counted : (height node : ℕ) → Built
-counted height node = record { part = part.Term (record { height = height; node = node }); used = node + 1 }
-
 -- a part stands for a state: of the nodes counted after `base`, a term has all, and it is in the store if the count is
 -- within the cap and its height within the bound
 pub data Means (xs : List ℕ) (cap base used : ℕ) : code.Part → State → Type 0 where
