@@ -18,7 +18,7 @@ use orders::Order;
 use term::Refusal;
 
 // How the steps end: how many were made, and the node of the term reached.
-// stays beside Run, which tells the bytes: one type over what is reached would name its last field no better
+// stays beside Run, which tells the bytes: one type for both would name its last field no better
 #[derive(Clone, Copy, Debug, PartialEq, Eq)]
 pub struct Reached {
     pub end: End,

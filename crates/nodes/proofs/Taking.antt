@@ -1,20 +1,28 @@
 -- Reading bytes of which nothing is known: what the calls ask, and what each `return` comes to.
-use Prim.Native.Nat.{ℕ, ◌+◌, ◌-◌, ◌*◌, ◌≤◌, ◌<◌, max}
-use mathlib.Core.Path.{◌≡◌}
-use Rattle.std.specs.Prelude.{Some, None}
-use mathlib.Core.List.{List}
+use Prim.Native.Nat.{ℕ, zero, suc, ◌+◌, ◌-◌, ◌*◌, ◌≤◌, ◌<◌, max}
+use mathlib.Core.Path.{◌≡◌, refl}
+use mathlib.Core.Bool.{Bool, true, false}
+use Rattle.std.specs.Prelude.{Option, Some, None}
+use mathlib.Core.List.{List, [], ◌∷◌}
 use native.Mathlib.Omega.{arith}
-use lib.ListN.{length, get_or, take, drop}
+use lib.Dec.{leb}
+use lib.ListN.{length, get_or, take, drop, length-drop}
+use lib.Seq.{get_or-drop}
+use borrow.Author.Tests.{leb-true}
 use Rattle.calculus.specs.Term.{Term, var, lam, app, nodes, height}
 use Rattle.calculus.specs.Bounds.{most_nodes, most_height}
 use Rattle.calculus.specs.Numbers.{from_digits}
+use Rattle.calculus.specs.Bytes.{variable_if}
 use Rattle.calculus.proofs.Coding.{AllBytes}
 use Rattle.calculus.proofs.Judged.{checked-given}
 use Rattle.calculus.proofs.Measures.{nodes_positive}
 use Rattle.calculus.proofs.Sizes.{size, size_positive}
 use Rattle.term.specs.Surveys.{Stands, Admitted}
-use Rattle.term.proofs.Places.{size-within}
-use Rattle.term.proofs.Standing.{variable-stands, abstraction-stands, application-stands, takes_all}
+use Rattle.term.specs.Heads.{head_of_found, head_of_kind, head_in}
+use Rattle.term.specs.declared.Head.{Head}
+use Rattle.term.specs.declared.Head.TheVariants.{Variable, Abstraction, Application}
+use Rattle.term.proofs.Places.{size-within, drop_more}
+use Rattle.term.proofs.Standing.{kind-inside, variable-stands, abstraction-stands, application-stands, takes_all}
 use Rattle.nodes.specs.Packing.{nodes_in, height_in}
 use Rattle.nodes.specs.Store.{Holds, Same, word}
 use Rattle.nodes.specs.Coded.{Loadable, Loads}
@@ -22,13 +30,76 @@ use Rattle.nodes.specs.Reading.{Readable, Read, Reads, Taken}
 use Rattle.nodes.specs.declared.Loaded.{Loaded}
 use Rattle.nodes.proofs.Keeping.{same_refl, same_then, holds_kept, says}
 
+-- WHICH BYTES a head is read from
+data Shows : List ℕ → Option Head → Type 0 where
+  variable : {bs : List ℕ} → 8 ≤ length bs → Shows (1 ∷ bs) (Some (Variable (from_digits 256 (take 8 bs))))
+  abstraction : {bs : List ℕ} → Shows (2 ∷ bs) (Some Abstraction)
+  application : {bs : List ℕ} → Shows (3 ∷ bs) (Some Application)
+  nothing : {l : List ℕ} → Shows l None
+
+shows : (l : List ℕ) → Shows l (head_in l)
+unfolding head_in head_of_kind
+shows [] = nothing
+shows (zero ∷ bs) = nothing
+shows (suc zero ∷ bs) = by (leb 8 (length bs)) refl
+  where
+    by : (b : Bool) → leb 8 (length bs) ≡ b → Shows (1 ∷ bs) (head_of_found (variable_if b bs))
+    by true e = variable (leb-true 8 (length bs) e)
+    by false e = nothing
+shows (suc (suc zero) ∷ bs) = abstraction
+shows (suc (suc (suc zero)) ∷ bs) = application
+shows (suc (suc (suc (suc k))) ∷ bs) = nothing
+
+shown_variable : {l : List ℕ} {i : ℕ} → Shows l (Some (Variable i))
+    → (get_or l 0 0 ≡ 1) × (9 ≤ length l) × (i ≡ from_digits 256 (take 8 (drop 1 l)))
+shown_variable (variable long) = (refl, omega (arith, long), refl)
+
+shown_abstraction : {l : List ℕ} → Shows l (Some Abstraction) → get_or l 0 0 ≡ 2
+shown_abstraction abstraction = refl
+
+shown_application : {l : List ℕ} → Shows l (Some Application) → get_or l 0 0 ≡ 3
+shown_application application = refl
+
+module _ (s : List ℕ) (at : ℕ) where
+  byte_there : {k : ℕ} → get_or (drop at s) 0 0 ≡ k → get_or s at 0 ≡ k
+  byte_there e =
+      let same : at + 0 ≡ at = omega arith in
+      rw (get_or-drop, same) at e
+
+  module _ {i : ℕ} (head : head_in (drop at s) ≡ Some (Variable i)) where
+    shown : Shows (drop at s) (Some (Variable i))
+    shown = rw head at (shows (drop at s))
+
+    pub variable-inside : at + 9 ≤ length s
+    variable-inside = omega (arith, (shown_variable shown).1, length-drop at s)
+
+    variable-there : AllBytes s → Stands s at (var i)
+    variable-there bytes =
+        let (kind, long, index) = shown_variable shown in
+        rw (index, ← drop_more s at 1 refl) (variable-stands bytes (byte_there kind) variable-inside)
+
+  abstraction-there : head_in (drop at s) ≡ Some Abstraction → get_or s at 0 ≡ 2
+  abstraction-there head = byte_there (shown_abstraction (rw head at (shows (drop at s))))
+
+  application-there : head_in (drop at s) ≡ Some Application → get_or s at 0 ≡ 3
+  application-there head = byte_there (shown_application (rw head at (shows (drop at s))))
+
+  pub abstraction-inside : head_in (drop at s) ≡ Some Abstraction → at < length s
+  abstraction-inside head = kind-inside s at (omega arith) (abstraction-there head)
+
+  pub application-inside : head_in (drop at s) ≡ Some Application → at < length s
+  application-inside head = kind-inside s at (omega arith) (application-there head)
+
 -- A VARIABLE takes one node, at height 1
-module _ {s : List ℕ} {at used : ℕ} {room after : List ℕ} where
-  pub at_variable : {i made : ℕ} → AllBytes s → get_or s at 0 ≡ 1 → at + 9 ≤ length s
-      → i ≡ from_digits 256 (take 8 (drop (at + 1) s)) → made ≡ used + 1 → Same room after used
-      → Holds after (var i) used → Reads s at room used (used + 1) 1 (Some (at + 9)) made after
+module _ {used cap deep : ℕ} {room : List ℕ} (asked : Readable room used cap deep) (more : used < cap) where
+  pub variable_asks : 2 * used + 2 ≤ length room
+  variable_asks = omega (arith, asked.fits)
+
+  pub at_variable : {s : List ℕ} {at i made : ℕ} {after : List ℕ} → 0 < deep → AllBytes s → head_in (drop at s) ≡ Some (Variable i)
+      → made ≡ used + 1 → Same room after used
+      → Holds after (var i) used → Reads s at room used cap deep (Some (at + 9)) made after
   unfolding nodes height size
-  at_variable {i} bytes is fits index made same new =
+  at_variable {s} {at} {i} some bytes head made same new =
       let last : used + 1 - 1 ≡ used = omega arith in
       rw made (record {
         same = same;
@@ -36,7 +107,7 @@ module _ {s : List ℕ} {at used : ℕ} {room after : List ℕ} where
         few = omega arith;
         read = record {
           term = var i;
-          stands = rw index (variable-stands bytes is fits);
+          stands = variable-there s at head bytes;
           passed = omega arith;
           low = omega arith;
           count = omega arith;
@@ -81,7 +152,7 @@ module _ {s : List ℕ} {at used cap deep first left : ℕ} {room mid : List ℕ
         omega (arith, one.asked.low, part.low, said.height_is),
       )
 
-  pub at_abstraction : {made : ℕ} {after : List ℕ} → get_or s at 0 ≡ 2 → made ≡ left + 1 → Same mid after left
+  pub at_abstraction : {made : ℕ} {after : List ℕ} → head_in (drop at s) ≡ Some Abstraction → made ≡ left + 1 → Same mid after left
       → ((t : Term) → Holds mid t (left - 1) → Holds after (lam t) left)
       → Reads s at room used cap deep (Some first) made after
   unfolding nodes height size
@@ -93,7 +164,7 @@ module _ {s : List ℕ} {at used cap deep first left : ℕ} {room mid : List ℕ
         few = omega (arith, one.reads.few);
         read = record {
           term = lam part.term;
-          stands = abstraction-stands is part.stands;
+          stands = abstraction-stands (abstraction-there s at is) part.stands;
           passed = omega (arith, part.passed);
           low = omega (arith, part.low);
           count = omega (arith, part.count);
@@ -133,7 +204,7 @@ module _ {s : List ℕ} {at used cap deep first left : ℕ} {room mid : List ℕ
           omega (arith, one.asked.low, part.low, right.low, l.height_is, r.height_is),
         )
 
-    pub at_application : {made : ℕ} {after : List ℕ} → get_or s at 0 ≡ 3 → made ≡ top + 1 → Same end after top
+    pub at_application : {made : ℕ} {after : List ℕ} → head_in (drop at s) ≡ Some Application → made ≡ top + 1 → Same end after top
         → ((t u : Term) → Holds end t (left - 1) → Holds end u (top - 1) → Holds after (app t u) top)
         → Reads s at room used cap deep (Some next) made after
     unfolding nodes height size
@@ -146,7 +217,7 @@ module _ {s : List ℕ} {at used cap deep first left : ℕ} {room mid : List ℕ
           few = omega (arith, two.few);
           read = record {
             term = app part.term right.term;
-            stands = application-stands is part.stands beside;
+            stands = application-stands (application-there s at is) part.stands beside;
             passed = omega (arith, part.passed, right.passed);
             low = omega (arith, part.low, right.low);
             count = omega (arith, part.count, right.count);

@@ -1,5 +1,5 @@
 // Coded bytes of which nothing is known, read once: nodes are made while the bytes are found to be a term.
-ghost use Rattle.std.specs.Prelude.{◌≡◌, ◌+◌, ◌*◌, ◌≤◌, ◌<◌, length, get_or, IfSome, IfErr, IfOk};
+ghost use Rattle.std.specs.Prelude.{◌≡◌, ◌+◌, ◌*◌, ◌≤◌, ◌<◌, length, IfSome, IfErr, IfOk};
 ghost use Rattle.calculus.specs.Bounds.{most_nodes};
 ghost use Rattle.calculus.specs.Refusal.{refused};
 ghost use Rattle.calculus.specs.Outcomes.{checked};
@@ -9,30 +9,11 @@ ghost use Rattle.nodes.specs.Reading.{Readable, Reads, Taken};
 
 use crate::{load, make_abstraction, make_application, make_variable};
 use calculus::MOST_HEIGHT;
-use term::Refusal;
-
-// The byte at an offset; after the last there are zeros, which begin no term.
-fn byte_at(s: &[u8], at: usize) -> u8
-    ensures { result ≡ get_or s.now at 0 }
-{
-    s.get(at).copied().unwrap_or(0)
-}
-
-// The variable at an offset, unless its bytes are cut short.
-fn read_variable(s: &[u8], at: usize, room: &mut [u64], used: &mut usize) -> Option<usize>
-    requires { (get_or s.now at 0 ≡ 1) × Readable room.old used.old (used.old + 1) 1 }
-    ensures { Reads s.now at room.old used.old (used.old + 1) 1
-        result used.new room.new }
-{
-    if s.len() - at < 9 {
-        return None;
-    }
-    *used = make_variable(room, *used, term::index_at(s, at + 1));
-    Some(at + 9)
-}
+use term::{Head, Refusal};
 
 // The term at an offset, no higher than so much, becomes nodes, of which there are at most `cap` in all. The offset
 // after it is returned, if there is such a term.
+// s and at stay apart: so `head_at` takes them, and a refusal tells the offset
 #[tactic(auto, using(crate::proofs::Taking::reading))]
 fn read(
     s: &[u8],
@@ -52,15 +33,18 @@ fn read(
     if cap <= *used {
         return None;
     }
-    match byte_at(s, at) {
-        1 => read_variable(s, at, room, used),
-        2 => {
+    match term::head_at(s, at)? {
+        Head::Variable(index) => {
+            *used = make_variable(room, *used, index);
+            Some(at + 9)
+        }
+        Head::Abstraction => {
             let next = read(s, at + 1, room, used, cap - 1, height - 1)?;
             let body = *used;
             *used = make_abstraction(room, body, body - 1);
             Some(next)
         }
-        3 => {
+        Head::Application => {
             let middle = read(s, at + 1, room, used, cap - 1, height - 1)?;
             let left = *used;
             let next = read(s, middle, room, used, cap - 1, height - 1)?;
@@ -68,7 +52,6 @@ fn read(
             *used = make_application(room, top, left - 1, top - 1);
             Some(next)
         }
-        _ => None,
     }
 }
 

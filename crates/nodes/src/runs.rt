@@ -11,7 +11,7 @@ pub enum End {
 }
 
 // How a run under a limit ends: the steps made, and the bytes of the term reached.
-// stays beside the engine's Reached, which tells a node: one type over what is reached would name its last field no better
+// stays beside the engine's Reached, which tells a node: one type for both would name its last field no better
 #[derive(Clone, Copy, Debug, PartialEq, Eq)]
 pub struct Run {
     pub end: End,

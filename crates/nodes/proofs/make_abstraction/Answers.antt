@@ -3,7 +3,7 @@ use mathlib.Core.Path.{◌≡◌}
 use native.Mathlib.Omega.{arith}
 use Rattle.nodes.specs.Store.{word}
 use Rattle.nodes.proofs.Keeping.{says}
-use Rattle.nodes.proofs.Making.{abstraction-word, abstraction-small, says-abstraction, abstraction-made}
+use Rattle.nodes.proofs.Making.{abstraction-word, says-abstraction, abstraction-made}
 use Rattle.nodes.proofs.make_abstraction.Goals as goal
 
 pub returns : goal.returns

@@ -3,7 +3,7 @@ use mathlib.Core.Path.{◌≡◌}
 use native.Mathlib.Omega.{arith}
 use Rattle.nodes.specs.Store.{word}
 use Rattle.nodes.proofs.Keeping.{says}
-use Rattle.nodes.proofs.Making.{application-word, application-small, says-application, application-made}
+use Rattle.nodes.proofs.Making.{application-word, says-application, application-made}
 use Rattle.nodes.proofs.make_application.Goals as goal
 
 pub returns : goal.returns
