@@ -101,7 +101,7 @@ fn work(cap: usize, limit: u64, s: &[u8], out: &mut [u8], store: &mut [u64]) -> 
     Ok(contract_levels(cap, limit, s, out, store, facts.height))
 }
 
-// OutsideBounds, TooLittleRoom, then the work, after which the room is cleared. Limit 0 is none.
+// OutsideBounds, TooLittleRoom, then the work, after which the room is cleared. Limit 0 is none, as C gives it.
 // Grant, work and clear stay written out: a closure for the work would have to hold the output, no plainer.
 pub fn eta(limit: u64, cap: u64, s: &[u8], out: &mut [u8], room: &mut [u64]) -> Result<Run, Stopped>
     ensures { (run_told result, out.new, room.new)

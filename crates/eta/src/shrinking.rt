@@ -47,7 +47,9 @@ fn contracted(room: &[u64], binder: Binder, body: usize) -> Option<usize>
     }
 }
 
-// A node whose parts are done: the same one if it says this already, and else a new one.
+// A node whose parts are done: the same one if it says this already, and else a new one. It is inlined, since a call
+// would pass the node through memory.
+#[inline]
 fn kept_or_put(room: &mut [u64], work: &mut Work, node: usize, made: Node, left: bool) -> Shrunk
     requires { (2 * node + 2 ≤ length room.old) × (2 * work.old.used + 2 ≤ length room.old) × Packable made }
     ensures { KeptOrPut room.old node made left work.old.used work.old.steps

@@ -8,6 +8,7 @@ ghost use Rattle.eta.specs.Writing.{Writable, Writes};
 use crate::named::{Node, named_at};
 
 // Kind 1 and the eight bytes of the index. The kinds stay numbers here and below: they are the coded bytes themselves.
+// It stays this crate's own, though `nodes::save` has the like: two lines, no plainer as one more public function.
 fn write_variable(out: &mut [u8], at: usize, index: u64) -> usize
     requires { at + 9 ≤ length out.old }
     ensures { Puts out.old at (encode (var index)) result out.new }
