@@ -17,7 +17,8 @@ pub data Scans (s : List ℕ) : Option ℕ → Type 0 where
 
 -- an answer of words is given for a text that passes, which is handed out, and the refusal for any other
 pub data Passes (s : List ℕ) (answer : Answer (List Word)) : Result Text Refusal → Type 0 where
-  is_fine : {ws : List Word} {text : Text} → Clean s → text.bytes.now ≡ s → answer ≡ given ws → Passes s answer (Ok text)
+  is_fine : {ws : List Word} {text : Text} → Clean s → text.bytes.now ≡ s → answer ≡ given ws
+      → Passes s answer (Ok text)
   is_refused : {e : Refusal} → answer ≡ refused (refusal_of e) → Passes s answer (Err e)
 
 -- whether all words are valid
