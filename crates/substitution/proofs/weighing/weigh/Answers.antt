@@ -1,6 +1,6 @@
 -- `substitution::weighing::weigh` meets its contract: what was measured is what the contraction measures.
 use native.Mathlib.Omega.{arith}
-use Rattle.substitution.proofs.Weights.{measure_asks, left-low, burst_asks, copies-low, at_end}
+use Rattle.substitution.proofs.Weights.{measure_asks, left-low, copies-low, at_end}
 use Rattle.substitution.proofs.weighing.weigh.Goals as goal
 
 pub measure-found-requires : goal.measure-found-requires
