@@ -52,7 +52,8 @@ pub record Contracts (room : List ℕ) (binder : Binder) (body : ℕ) (r : Optio
   pub stays : r ≡ None → (b : Named) → Names room b body → (binder.linear && ends_in binder.level b) ≡ false
 
 -- A NODE WHOSE PARTS ARE DONE: it is kept if it says this already, and else put as the next one
-abbrev pub KeptOrPut : (before : List ℕ) (node : ℕ) (made : Node) (left : Bool) (used steps : ℕ) → State → List ℕ → Type 0
+abbrev pub KeptOrPut : (before : List ℕ) (node : ℕ) (made : Node) (left : Bool) (used steps : ℕ) → State → List ℕ
+    → Type 0
 KeptOrPut before node made left used steps r after =
     ((node_at before node ≡ made)
     × (◌≡◌ {A = State} r (record { node = node; used = used; steps = steps; left = left }))

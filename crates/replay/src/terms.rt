@@ -40,8 +40,8 @@ fn bracketed<'a>(marks: &'a [u8], behind: &[u8], spaced: bool) -> (u64, &'a [u8]
 }
 
 // The bytes of a term's marks, put from a place on as far as there is room, and where they end: `\` is an abstraction,
-// `@` an application, a hex digit a variable of that index, and a greater index stands in brackets. Any other mark stays
-// the variable 16, as the program has always taken it.
+// `@` an application, a hex digit a variable of that index, and a greater index stands in brackets. Any other mark
+// stays the variable 16, as the program has always taken it.
 fn put_term(free: &mut [u8], from: usize, marks: &[u8], spaced: bool) -> usize
     requires { from ≤ length free.old }
     ensures { (from ≤ result) × (result ≤ length free.new) }
