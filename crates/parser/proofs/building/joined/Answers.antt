@@ -1,11 +1,7 @@
 -- `parser::building::joined` meets its contract: a law for each pair of parts.
 use mathlib.Core.Logic.{inl, inr}
-use Rattle.parser.proofs.Built.{no_item, empty_item, first_item, after-empty, both_terms, can-join}
+use Rattle.parser.proofs.Built.{no_item, empty_item, first_item, after-empty}
 use Rattle.parser.proofs.building.joined.Goals as goal
-
-pub application-requires : goal.application-requires
-application-requires c =
-    (c.requires.0, can-join _ c.in-Term.is _ c.in-Term-part.is c.requires.1)
 
 pub returns-in-Nothing : goal.returns-in-Nothing
 returns-in-Nothing c = elim c.in-Nothing.is [ inl e ↦ no_item e | inr e ↦ empty_item e ]
@@ -15,7 +11,3 @@ returns-in-Nothing-part c = first_item _ c.in-Term.is c.in-Nothing-part.is
 
 pub returns-in-Empty : goal.returns-in-Empty
 returns-in-Empty c = after-empty _ c.in-Term.is c.in-Empty.is
-
-pub returns-in-Term-part : goal.returns-in-Term-part
-returns-in-Term-part c =
-    both_terms _ c.in-Term.is _ c.in-Term-part.is c.application.ensures

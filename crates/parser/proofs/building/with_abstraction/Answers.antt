@@ -2,13 +2,6 @@
 use Rattle.parser.proofs.Built.{with_abstraction, after-abstraction}
 use Rattle.parser.proofs.building.with_abstraction.Goals as goal
 
-pub abstraction-item-requires : goal.abstraction-item-requires
-abstraction-item-requires c = (
-  c.requires.0,
-  record
-      { base = c.args.read.used; state = c.requires.1.inner; means = c.requires.1.next },
-)
-
 pub joined-requires : goal.joined-requires
 joined-requires c =
     after-abstraction c.requires.0 c.requires.2 c.requires.1 c.abstraction-item.ensures

@@ -4,7 +4,6 @@ use native.Mathlib.Omega.{arith}
 use Rattle.words.proofs.Tables.{only_none}
 use Rattle.parser.proofs.Meeting.{met-as, met-refused}
 use Rattle.parser.proofs.Turns.{at_first, variable-read, closed-here, ended_here, refused_here}
-use Rattle.parser.proofs.Turns.{few_used, roomy-here, enclosable-here, opened-here, ready-inside}
 use Rattle.parser.proofs.Nesting.{group-enters, nested_stops, group-read, body-read}
 use Rattle.parser.proofs.Nesting.{last-few, went_on, roomy_after, joinable-after}
 use Rattle.parser.proofs.sequences.+group_sequence.Goals as goal
@@ -16,21 +15,6 @@ group-returns t c =
 pub sequence-loop-token-init : goal.sequence-loop-token-init
 sequence-loop-token-init t c = at_first _ _ _ _ _ _ _ c.requires
 
-pub sequence-token_at-requires : goal.sequence-token_at-requires
-sequence-token_at-requires t c =
-    let here = c.loop-token.invariant.reaches.step in
-    (here.placed, here.valid, opened-here c.loop-token.invariant c.args.text.clean c.requires)
-
-pub sequence-with_variable-read-requires : goal.sequence-with_variable-read-requires
-sequence-with_variable-read-requires t c =
-    let so_far = c.loop-token.invariant in
-    (roomy-here so_far c.args.text.clean c.requires, enclosable-here so_far c.args.text.clean c.requires, few_used so_far c.args.text.clean c.requires)
-
-pub sequence-loop-token-smaller-in-Index : goal.sequence-loop-token-smaller-in-Index
-sequence-loop-token-smaller-in-Index t c =
-    let met = met-as _ _ _ _ c.token_at.ensures c.in_ok-token.was c.in-Index.is in
-    omega (arith, met.moved, met.step.placed.inside)
-
 pub sequence-loop-token-preserved-in-Index : goal.sequence-loop-token-preserved-in-Index
 sequence-loop-token-preserved-in-Index t c =
     let met = met-as _ _ _ _ c.token_at.ensures c.in_ok-token.was c.in-Index.is in
@@ -40,14 +24,6 @@ pub sequence-returns-in_err-token : goal.sequence-returns-in_err-token
 sequence-returns-in_err-token t c =
     let p = err_from_is_err_and c.from_residual.result c.from_residual.ensures.1 in
     rw (p.1, p.2) (refused_here c.loop-token.invariant (met-refused _ _ _ _ c.token_at.ensures c.in_err-token.was))
-
-pub sequence-group-requires : goal.sequence-group-requires
-sequence-group-requires t c =
-    let met = met-as _ _ _ _ c.token_at.ensures c.in_ok-token.was c.in-Open.is in
-    let here = c.loop-token.invariant.reaches.step in (
-      omega (arith, c.decreases, met.moved, here.forward, met.step.placed.inside),
-      (ready-inside c.loop-token.invariant c.args.text.clean c.requires met.step, met.inside),
-    )
 
 pub sequence-returns-in_err-went-in-Open : goal.sequence-returns-in_err-went-in-Open
 sequence-returns-in_err-went-in-Open t c =

@@ -1,11 +1,7 @@
 -- `parser::tokens::token_at` meets its contract: what each word meets is a law of `Meeting`.
-use Rattle.parser.proofs.Meeting.{meets-number, meets-name, meets_undefined, meets-left, meets-binder, place-fits}
+use Rattle.parser.proofs.Meeting.{meets-number, meets-name, meets_undefined, meets-left, meets-binder}
 use Rattle.parser.proofs.Meeting.{meets-right, meets_end, never_invalid}
 use Rattle.parser.proofs.tokens.token_at.Goals as goal
-
-pub resolve-requires : goal.resolve-requires
-resolve-requires c =
-    (rw c.in-Named.is at c.next-step.ensures.0.names, c.requires.2)
 
 pub returns-in-Number : goal.returns-in-Number
 returns-in-Number c =
@@ -53,6 +49,3 @@ pub unreachable-requires : goal.unreachable-requires
 unreachable-requires c =
     let told = c.next-step.ensures.0 in
     never_invalid c.requires.1 c.args.text.clean told.placed (rw c.in-Invalid.is at told.tells)
-
-pub named-requires : goal.named-requires
-named-requires c = place-fits c.args.text.clean (rw c.in-Binder.is at c.next-step.ensures.0.names)

@@ -2,11 +2,8 @@
 use Rattle.std.proofs.Common.{sym, ◌∙◌, arith, take}
 use Rattle.std.proofs.lemmas.Iterator.Adapters.{YieldsList-from_rev_slice}
 use Rattle.std.proofs.lemmas.Iterator.Consumers.{YieldsList-turn, YieldsList-end}
-use Rattle.parser.proofs.Meeting.{looks_first, held_there, looked_all, looks_past-group, looks_past-binder, looked_up}
+use Rattle.parser.proofs.Meeting.{held_there, looked_all, looks_past-group, looks_past-binder, looked_up}
 use Rattle.parser.proofs.opens.Opens.resolve.Goals as goal
-
-pub loop-open-init : goal.loop-open-init
-loop-open-init c = looks_first _ _ _
 
 pub same_name-requires : goal.same_name-requires
 same_name-requires c =
