@@ -6,11 +6,10 @@ use native.Mathlib.Omega.{arith}
 use lib.ListN.{drop}
 use Rattle.term.specs.Heads.{head_in}
 use Rattle.term.specs.declared.Head.TheVariants.{Variable, Abstraction, Application}
-use Rattle.calculus.proofs.Putting.{puts-length}
-use Rattle.printer.proofs.Walking.{at_first, at_variable, at_abstraction, at_application, head-there}
+use Rattle.printer.proofs.Walking.{at_variable, at_abstraction, at_application, head-there}
 use Rattle.printer.proofs.Walking.{opened_by}
 use Rattle.printer.proofs.Walking.{VariableAsks, AbstractionAsks, ApplicationAsks, GapAsks}
-use Rattle.printer.proofs.Walking.{on_length, variable_asks, abstraction_asks, application_asks, left_asks}
+use Rattle.printer.proofs.Walking.{variable_asks, abstraction_asks, application_asks, left_asks}
 use Rattle.printer.proofs.Walking.{gap_asks}
 use Rattle.printer.proofs.+write_part.Goals as goal
 use Rattle.printer.proofs.+write_part.Goals.{After-write_part-left, In-Abstraction, In-Application, In-Variable}
@@ -59,9 +58,6 @@ left-written t c =
     gap_asks c.loop-index.invariant asked (app-head) c.groups_application.ensures opened
     c.write_part-left.ensures
 
-pub loop-index-init : goal.loop-index-init
-loop-index-init t c = at_first
-
 pub put_variable-end-requires : goal.put_variable-end-requires
 put_variable-end-requires t c = omega (arith, var-asks t (goal.at.put_variable-end-requires t c).In-Variable)
 
@@ -73,11 +69,6 @@ pub overflow_add-result : goal.overflow_add-result
 overflow_add-result t c =
     omega (arith, var-asks t (goal.at.overflow_add-result t c).In-Variable)
 
-pub shape_of-out-in-Variable : goal.shape_of-out-in-Variable
-shape_of-out-in-Variable t c =
-    let before = on_length c.loop-index.invariant c.requires in
-    puts-length _ c.put_times-to.ensures ∙ puts-length _ c.put_variable-end.ensures ∙ before
-
 pub returns-in-Variable : goal.returns-in-Variable
 returns-in-Variable t c =
     at_variable c.loop-index.invariant (var-head t (goal.at.returns-in-Variable t c).In-Variable) c.put_variable-end.ensures
@@ -85,9 +76,6 @@ returns-in-Variable t c =
 
 pub put_if-opened-requires : goal.put_if-opened-requires
 put_if-opened-requires t c = rw c.groups_abstraction.ensures (omega (arith, lam_asks t (goal.at.put_if-opened-requires t c).In-Abstraction))
-
-pub overflow_sub-closes : goal.overflow_sub-closes
-overflow_sub-closes t c = omega (arith, c.put_if-opened.ensures.reached)
 
 pub overflow_add-closes : goal.overflow_add-closes
 overflow_add-closes t c =
@@ -119,9 +107,6 @@ loop-index-preserved-in-Abstraction t c =
 
 pub put_if-opened-requires-in-Application : goal.put_if-opened-requires-in-Application
 put_if-opened-requires-in-Application t c = rw c.groups_application.ensures (omega (arith, app_asks t (goal.at.put_if-opened-requires-in-Application t c).In-Application))
-
-pub overflow_sub-closes-in-Application : goal.overflow_sub-closes-in-Application
-overflow_sub-closes-in-Application t c = omega (arith, c.put_if-opened-in-Application.ensures.reached)
 
 pub overflow_add-closes-in-Application : goal.overflow_add-closes-in-Application
 overflow_add-closes-in-Application t c =

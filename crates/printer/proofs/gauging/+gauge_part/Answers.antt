@@ -6,7 +6,7 @@ use native.Mathlib.Omega.{arith}
 use lib.ListN.{drop}
 use Rattle.term.specs.Heads.{head_in}
 use Rattle.term.specs.declared.Head.TheVariants.{Variable, Abstraction, Application}
-use Rattle.printer.proofs.Gauged.{no_term, at_first, at_variable, at_abstraction, left-ready}
+use Rattle.printer.proofs.Gauged.{at_first, at_variable, at_abstraction, left-ready}
 use Rattle.printer.proofs.Gauged.{at_application}
 use Rattle.printer.proofs.gauging.+gauge_part.Goals as goal
 use Rattle.printer.proofs.gauging.+gauge_part.Goals.{In-Abstraction, In-Application, In-Variable}
@@ -27,9 +27,6 @@ app-head t c = sym c.head_at.ensures ∙ c.in_ok-index.was ∙ ap Some c.in-Appl
 pub loop-room-init : goal.loop-room-init
 loop-room-init t c = at_first _ _ _ _ _ _ _ c.requires
 
-pub returns-then-room-eq0 : goal.returns-then-room-eq0
-returns-then-room-eq0 t c = no_term _ _ _ _ _ _ _
-
 pub returns-in-Variable : goal.returns-in-Variable
 returns-in-Variable t c =
     at_variable c.loop-room.invariant c.if-room-eq0.false (var-head t (goal.at.returns-in-Variable t c).In-Variable) c.max-counts.ensures
@@ -47,14 +44,8 @@ gauge_part-requires t c = (
       c.gap_room.ensures.1,
 )
 
-pub returns-in_err-at-in-Application : goal.returns-in_err-at-in-Application
-returns-in_err-at-in-Application t c = rw c.from_residual-in_err-at-in-Application.ensures (no_term _ _ _ _ _ _ _)
-
 pub loop-room-preserved : goal.loop-room-preserved
 loop-room-preserved t c =
     at_application c.loop-room.invariant c.if-room-eq0.false (app-head t (goal.at.loop-room-preserved t c).In-Application)
     c.groups_application.ensures c.pair_room-in-Application.ensures c.gap_room.ensures
     c.gauge_part.ensures c.in_ok-at-in-Application.was
-
-pub returns-in_err-index : goal.returns-in_err-index
-returns-in_err-index t c = rw c.from_residual.ensures (no_term _ _ _ _ _ _ _)
