@@ -1,5 +1,5 @@
 -- `reduction::work` meets its contract: two inputs that are loaded are contracted as nodes.
-use mathlib.Core.Path.{sym, ◌∙◌}
+use mathlib.Core.Path.{◌∙◌}
 use native.Mathlib.Omega.{arith}
 use Rattle.std.proofs.lemmas.Result.{err_from_is_err_and}
 use Rattle.nodes.specs.Reading.{Taken}

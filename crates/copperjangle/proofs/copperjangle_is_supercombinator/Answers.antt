@@ -1,7 +1,0 @@
--- `copperjangle::copperjangle_is_supercombinator` meets its contract: the query's answer, told in numbers.
-use mathlib.Core.Path.{ap, ◌∙◌}
-use Rattle.copperjangle.specs.Answers.{truth_in_numbers}
-use Rattle.copperjangle.proofs.copperjangle_is_supercombinator.Goals as goal
-
-pub returns : goal.returns
-returns c = c.from.ensures ∙ ap truth_in_numbers c.is_supercombinator.ensures
