@@ -22,6 +22,7 @@ fn stopped(stop: Stop) -> At
 
 // A contraction to at most so many nodes, judged before it is made. Room for the nodes above it is kept: each is made
 // once more on the way out.
+// its parameters stay apart, here and below: two nodes and two bounds that no other function is handed, no plainer
 #[tactic(auto, using(crate::proofs::Weighed::weighings))]
 fn contract_weighed(
     room: &mut [u64],

@@ -26,6 +26,7 @@ pub(crate) fn rebind(room: &mut [u64], work: &mut Work, whole: usize, answer: At
 }
 
 // The application, whose parts are now these, and why the run stops.
+// its parameters stay apart, as in the rounds that call it
 pub(crate) fn rejoin(
     room: &mut [u64],
     work: &mut Work,

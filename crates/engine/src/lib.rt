@@ -97,6 +97,7 @@ fn run_all(cap: usize, order: Order, store: &mut [u64], work: &mut Work) -> At
 }
 
 // At most so many steps, of the term that is the last of so many nodes.
+// the order stays a value: as a type parameter it would be seven copies of the engine, no plainer
 pub fn steps(
     cap: usize,
     order: Order,

@@ -75,6 +75,7 @@ fn join(room: &mut [u64], work: &mut Work, node: usize, first: Shrunk, second: S
 }
 
 // An abstraction that stays, whose body is done: the same node if the body stayed.
+// Its parameters stay apart, as in `bind`: what is lent and a node that was read are not one thing, no plainer.
 fn rebind(
     room: &mut [u64],
     work: &mut Work,

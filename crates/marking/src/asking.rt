@@ -86,7 +86,7 @@ fn split_digits(s: &[u8]) -> (&[u8], &[u8])
     s.split_at(digits_end(s).unwrap_or(s.len()))
 }
 
-// The number of one to seven digits.
+// The number of one to seven digits. It stays a sum: `parse` takes more than seven digits too.
 #[tactic(auto, using(crate::proofs::Digits::reading))]
 fn number(digits: &[u8]) -> Option<u64>
     requires { start is_figure digits.now ≡ digits.now }

@@ -50,6 +50,7 @@ fn report_run(word: &[u8], steps: u64, notation: Notation, s: &[u8], out: &mut [
 }
 
 // A term that was read is reduced, and what became of it reported.
+// its parameters stay apart: a job's text is read by now, so that a struct would be one more, no plainer
 fn reduce(
     order: Order,
     limit: u64,

@@ -113,7 +113,7 @@ pub(crate) fn read(line: &[u8]) -> Option<Asked<'_>> {
     })
 }
 
-// The call.
+// The call. Its parameters stay apart, as those that the entry points are lent.
 pub(crate) fn answer(
     asked: Asked,
     name: u64,
