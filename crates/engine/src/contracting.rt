@@ -11,7 +11,7 @@ use substitution::put_in;
 use substitution::weighing::weigh;
 
 // Each answers a node and why the run stops there, or 0, which is no node, and why nothing was contracted.
-// stays a struct: a Result of the node, three words, went through memory in the recursion above and was slower
+// stays a struct: a Result of the node goes through memory, and was slower in a small recursion of this shape
 
 // No node, and why nothing was contracted.
 fn stopped(stop: Stop) -> At

@@ -41,7 +41,7 @@ pub(crate) enum Stop {
 }
 
 // The node that a part has become, and why the run stops there; where nothing was contracted, no node: 0.
-// stays a struct: node and reason are told together, and a Result of both, three words, went through memory
+// stays a struct: node and reason are told together, and a Result of both goes through memory
 #[derive(Clone, Copy, Debug, PartialEq, Eq)]
 pub(crate) struct At {
     pub(crate) node: usize,

@@ -7,7 +7,7 @@ use calculus::GREATEST_NUMBER;
 use nodes::{Node, UNKNOWN};
 
 // How often the argument is put in, the greatest depth at which it is (0 for none), and the height afterwards.
-// `deepest` stays a number: as an Option, a fourth word, it made the walk a tenth slower
+// `deepest` stays a number: as an Option, a fourth word, it made a copy of the walk in Rust a tenth slower
 #[derive(Clone, Copy, Debug, PartialEq, Eq)]
 struct Measured {
     copies: u64,
