@@ -23,6 +23,7 @@ fn tell_index(rt: &impl Print, index: u64) -> io::Result<()> {
 }
 
 // A term by marks, as questions have it. The place stays counted: a node takes 1 or 9 bytes, so no iterator goes along.
+// A mark is written as a byte: `print!` makes a buffer of its own for each.
 fn tell_term(rt: &impl Print, s: &[u8]) -> io::Result<()> {
     let mut at: usize = 0;
     while at < s.len() {
@@ -32,11 +33,11 @@ fn tell_term(rt: &impl Print, s: &[u8]) -> io::Result<()> {
                 at += 9;
             }
             Some(Head::Abstraction) => {
-                print!(rt; "\\")?;
+                rt.write_all(b"\\")?;
                 at += 1;
             }
             Some(Head::Application) => {
-                print!(rt; "@")?;
+                rt.write_all(b"@")?;
                 at += 1;
             }
             None => return Ok(()),
@@ -70,7 +71,7 @@ pub(crate) fn tell(rt: &impl Print, call: Call, answer: Answer, written: &[u8]) 
     } = answer;
     print!(rt; "{refusal} {finished} {value} {steps} {place} {code}")?;
     if !written.is_empty() {
-        print!(rt; " ")?;
+        rt.write_all(b" ")?;
         tell_output(rt, call, written)?;
     }
     Ok(())

@@ -1,10 +1,9 @@
 -- Two names are the same text exactly if they have the same bytes.
-use Rattle.std.specs.Prelude.{ℕ, zero, suc, ◌-◌, ◌<◌, ◌≡◌, Bool, true, false, List, [], ◌∷◌, take, drop, get_or, length}
-use Rattle.std.proofs.Common.{refl, sym, ap, ◌∙◌, ◌&&◌, arith}
-use Rattle.std.proofs.lemmas.List.{length-drop, length-take-le}
+use Rattle.std.specs.Prelude.{ℕ, zero, suc, ◌-◌, ◌<◌, ◌≤◌, ◌≡◌, Bool, true, false, List, [], ◌∷◌, take, drop, get_or, length}
+use Rattle.std.proofs.Common.{refl, sym, ap, ◌∙◌, ◌&&◌, eq-eqb, arith}
+use Rattle.std.proofs.lemmas.List.{length-drop, length-take-le, take_all}
 use lib.Dec.{eqb}
 use lib.Pointwise.{pointwise}
-use borrow.Author.Tests.{ne_eqb}
 use Rattle.calculus.specs.Characters.{characters, bytes, same_text}
 use Rattle.calculus.proofs.Names.{same_text-refl, same_text→eq}
 use Rattle.calculus.proofs.Tests.{is_false}
@@ -21,15 +20,25 @@ same_text-pointwise [] (y ∷ ys) = refl
 same_text-pointwise (x ∷ xs) [] = refl
 same_text-pointwise (x ∷ xs) (y ∷ ys) = ap (λ b. eqb x y && b) (same_text-pointwise xs ys)
 
-heads_differ : (xs ys : List ℕ) → (get_or xs 0 0 ≡ get_or ys 0 0 → ⊥) → false ≡ same_text xs ys
-unfolding same_text
-heads_differ [] [] n = absurd (n refl)
-heads_differ [] (y ∷ ys) n = refl
-heads_differ (x ∷ xs) [] n = refl
-heads_differ (x ∷ xs) (y ∷ ys) n = rw (ne_eqb x y n)
+-- the rest, as a slice to the end has it
+abbrev rest_from : ℕ → List ℕ → List ℕ
+rest_from n xs = take (length xs - n) (drop n xs)
 
-lengths_differ : (xs ys : List ℕ) → (length xs ≡ length ys → ⊥) → false ≡ same_text xs ys
-lengths_differ xs ys n = sym (is_false (same_text xs ys) (λ same. n (ap length (same_text→eq xs ys same))))
+rest-drop : (n : ℕ) (xs : List ℕ) → rest_from n xs ≡ drop n xs
+rest-drop n xs = take_all (length xs - n) (drop n xs) (omega (arith, length-drop n xs))
+
+-- where the first bytes agree, the rest decides
+rest_decides : (n : ℕ) (xs ys : List ℕ) → n ≤ length xs → length xs ≡ length ys
+    → ((k : ℕ) → k < n → get_or xs k 0 ≡ get_or ys k 0) → pointwise eqb (drop n xs) (drop n ys) ≡ pointwise eqb xs ys
+rest_decides zero xs ys h e agree = refl
+rest_decides (suc n) [] ys h e agree = absurd (omega arith)
+rest_decides (suc n) (x ∷ xs) [] h e agree = absurd (omega (arith, e))
+rest_decides (suc n) (x ∷ xs) (y ∷ ys) h e agree =
+    let same : eqb x y ≡ true = eq-eqb x y (agree 0 (omega arith)) in
+    rw same (rest_decides n xs ys (omega arith) (omega (arith, e)) (λ k low. agree (suc k) (omega arith)))
+
+differ : (xs ys : List ℕ) → (xs ≡ ys → ⊥) → false ≡ same_text xs ys
+differ xs ys n = sym (is_false (same_text xs ys) (λ same. n (same_text→eq xs ys same)))
 
 -- the bytes of a name
 abbrev bytes_at : List ℕ → Name → List ℕ
@@ -61,24 +70,33 @@ module _ {s : List ℕ} (clean : Clean s) where
           sym (bytes-name x) ∙ ap bytes (same_text→eq (name_of s x) (name_of s y) same) ∙ bytes-name y in
           true≢false (sym (same_text-refl (bytes_at s y)) ∙ rw alike at e)))
 
-  bytes-length : (x : Name) → Inside s x → length (bytes_at s x) ≡ x.to - x.from
+  pub bytes-length : (x : Name) → Inside s x → length (bytes_at s x) ≡ x.to - x.from
   bytes-length x inside =
       length-take-le (x.to - x.from) (drop x.from s) (omega (arith, length-drop x.from s, inside.within))
 
   pub longer-names : (x y : Name) → Inside s x → Inside s y → (x.to - x.from ≡ y.to - y.from → ⊥)
       → false ≡ same_text (name_of s x) (name_of s y)
   longer-names x y a b n =
-      lengths_differ (bytes_at s x) (bytes_at s y) (λ e. n (sym (bytes-length x a) ∙ e ∙ bytes-length y b))
+      differ (bytes_at s x) (bytes_at s y) (λ e. n (sym (bytes-length x a) ∙ ap length e ∙ bytes-length y b))
       ∙ same-names x y
 
-  pub other-names : (x y : Name) → (get_or (bytes_at s x) 0 0 ≡ get_or (bytes_at s y) 0 0 → ⊥)
+  pub other-names : (x y : Name) (k : ℕ) → (get_or (bytes_at s x) k 0 ≡ get_or (bytes_at s y) k 0 → ⊥)
       → false ≡ same_text (name_of s x) (name_of s y)
-  other-names x y n = heads_differ (bytes_at s x) (bytes_at s y) n ∙ same-names x y
+  other-names x y k n = differ (bytes_at s x) (bytes_at s y) (λ e. n (ap (λ l. get_or l k 0) e)) ∙ same-names x y
 
   -- what `==` of the slices tells
   pub alike-names : (x y : Name) → {b : Bool} → b ≡ pointwise eqb (bytes_at s x) (bytes_at s y)
       → b ≡ same_text (name_of s x) (name_of s y)
   alike-names x y is = is ∙ same_text-pointwise (bytes_at s x) (bytes_at s y) ∙ same-names x y
 
+  -- what it tells of the rest, where the first bytes agree one by one
+  pub agreeing-names : (x y : Name) (n : ℕ) → n ≤ length (bytes_at s x) → length (bytes_at s x) ≡ length (bytes_at s y)
+      → ((k : ℕ) → k < n → get_or (bytes_at s x) k 0 ≡ get_or (bytes_at s y) k 0) → {b : Bool}
+      → b ≡ pointwise eqb (rest_from n (bytes_at s x)) (rest_from n (bytes_at s y)) → b ≡ same_text (name_of s x) (name_of s y)
+  agreeing-names x y n within long agree is =
+      let a = rest-drop n (bytes_at s x) in
+      let b = rest-drop n (bytes_at s y) in
+      alike-names x y (is ∙ rw (a, b) (rest_decides n (bytes_at s x) (bytes_at s y) within long agree))
+
 -- what `same_name` is proved by
-pub ruleset naming = (longer-names, other-names, alike-names)
+pub ruleset naming = (longer-names, other-names)

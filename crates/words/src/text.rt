@@ -26,12 +26,13 @@ impl<'a> Text<'a> {
         }
         let one = &self.bytes[x.from..x.to];
         let other = &self.bytes[y.from..y.to];
-        // the first byte tells most names apart, and `==` of slices calls a function
-        if let ([a, ..], [b, ..]) = (one, other) {
-            if *a != *b {
+        // the first bytes one by one, since most names are short or soon differ, and `==` of slices calls a function
+        let near = one.len().min(8);
+        for i in 0..near {
+            if one[i] != other[i] {
                 return false;
             }
         }
-        one == other
+        one[near..] == other[near..]
     }
 }
