@@ -17,6 +17,20 @@ use Rattle.orders.specs.declared.Order.{Order}
 use Rattle.orders.specs.declared.Order.TheVariants.{NOR, CBN, HSP, HNO, APP, CBV, HAP}
 use Rattle.copperjangle.specs.Numbers.{numbered, notations, orders}
 
+-- the number of each case names what the case is
+pub notation_numbered : (x : Notation) → numbered notations (notation.number_of x) ≡ some (notation.notation_of x)
+notation_numbered DeBruijn = refl
+notation_numbered Classic = refl
+
+pub order_numbered : (x : Order) → numbered orders (order.number_of x) ≡ some (order.order_of x)
+order_numbered NOR = refl
+order_numbered CBN = refl
+order_numbered HSP = refl
+order_numbered HNO = refl
+order_numbered APP = refl
+order_numbered CBV = refl
+order_numbered HAP = refl
+
 -- a number that is no place of a list names nothing in it
 pub names-none : {A : Type 0} (xs : List A) (n : ℕ) → length xs ≤ n → numbered xs n ≡ none
 names-none [] n h = refl
@@ -25,11 +39,7 @@ names-none (x ∷ xs) (suc n) h = names-none xs n (omega arith)
 
 module _ (n : ℕ) {r : Result Notation Refusal} (says : notation.Numbered n r) where
   pub notation-named : {x : Notation} → r ≡ Ok x → numbered notations n ≡ some (notation.notation_of x)
-  notation-named {x} e = rw (sym (rw e at says)) (by_case x)
-    where
-      by_case : (x : Notation) → numbered notations (notation.number_of x) ≡ some (notation.notation_of x)
-      by_case DeBruijn = refl
-      by_case Classic = refl
+  notation-named {x} e = rw (sym (rw e at says)) (notation_numbered x)
 
   pub no_notation : {why : Refusal} → r ≡ Err why
       → (numbered notations n ≡ none) × (refusal_of why ≡ outside_bounds)
@@ -37,16 +47,7 @@ module _ (n : ℕ) {r : Result Notation Refusal} (says : notation.Numbered n r) 
 
 module _ (n : ℕ) {r : Result Order Refusal} (says : order.Numbered n r) where
   pub order-named : {x : Order} → r ≡ Ok x → numbered orders n ≡ some (order.order_of x)
-  order-named {x} e = rw (sym (rw e at says)) (by_case x)
-    where
-      by_case : (x : Order) → numbered orders (order.number_of x) ≡ some (order.order_of x)
-      by_case NOR = refl
-      by_case CBN = refl
-      by_case HSP = refl
-      by_case HNO = refl
-      by_case APP = refl
-      by_case CBV = refl
-      by_case HAP = refl
+  order-named {x} e = rw (sym (rw e at says)) (order_numbered x)
 
   pub no-order : {why : Refusal} → r ≡ Err why → (numbered orders n ≡ none) × (refusal_of why ≡ outside_bounds)
   no-order e = let (is, above) = rw e at says in (names-none orders n above, rw is)

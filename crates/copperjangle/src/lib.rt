@@ -34,6 +34,7 @@ pub struct Answer {
 }
 
 // The twelve stay one function each, with buffers side by side: the C interface.
+// Four attributes open a definition that no body needs, so that an edit of how an answer is told is judged by it.
 
 // How many variables, abstractions and applications there are, in `value`, as each number below.
 pub fn copperjangle_nodes(term: &[u8]) -> Answer
@@ -64,6 +65,7 @@ pub fn copperjangle_max_free_index(term: &[u8]) -> Answer
 }
 
 // 1 if some index is 0 or free, else 0.
+#[tactic(auto, unfolding(crate::specs::Answers::truth_in_numbers))]
 pub fn copperjangle_has_free_variables(term: &[u8]) -> Answer
     ensures { result ≡ truth_in_numbers (has_free_variables_of term.now) }
 {
@@ -71,6 +73,7 @@ pub fn copperjangle_has_free_variables(term: &[u8]) -> Answer
 }
 
 // 1 if every index is bound, else 0.
+#[tactic(auto, unfolding(crate::specs::Answers::truth_in_numbers))]
 pub fn copperjangle_is_supercombinator(term: &[u8]) -> Answer
     ensures { result ≡ truth_in_numbers (is_supercombinator_of term.now) }
 {
@@ -78,6 +81,7 @@ pub fn copperjangle_is_supercombinator(term: &[u8]) -> Answer
 }
 
 // 1 if two terms are the same, else 0; the first input's refusals come before the second's.
+#[tactic(auto, unfolding(crate::specs::Answers::truth_in_numbers))]
 pub fn copperjangle_equality(first: &[u8], second: &[u8]) -> Answer
     ensures { result ≡ truth_in_numbers (equality_of first.now second.now) }
 {
@@ -85,6 +89,7 @@ pub fn copperjangle_equality(first: &[u8], second: &[u8]) -> Answer
 }
 
 // The text of a term in the notation of this number, and its length; an unknown number is refused by 1.
+#[tactic(auto, using(crate::proofs::ByNumber::printing))]
 pub fn copperjangle_print(notation: u64, term: &[u8], out: &mut [u8]) -> Answer
     ensures { (result, out.new) ≡ print_numbered notation term.now out.old }
 {
@@ -95,6 +100,7 @@ pub fn copperjangle_print(notation: u64, term: &[u8], out: &mut [u8]) -> Answer
 }
 
 // The term that a text says in the notation of this number, and its length; an unknown number is refused by 1.
+#[tactic(auto, using(crate::proofs::ByNumber::parsing))]
 pub fn copperjangle_parse(
     notation: u64,
     cap: u64,
@@ -112,6 +118,7 @@ pub fn copperjangle_parse(
 }
 
 // The body of an abstraction with the argument put in, and its length.
+#[tactic(auto, unfolding(crate::specs::Answers::number_in_numbers))]
 pub fn copperjangle_apply(
     cap: u64,
     abstraction: &[u8],
@@ -142,6 +149,7 @@ pub fn copperjangle_eta(
 
 // Steps of the order of this number, at most the limit: the term reached, and its length. An unknown number is refused
 // by 1.
+#[tactic(auto, using(crate::proofs::ByNumber::reducing))]
 pub fn copperjangle_reduce(
     order: u64,
     limit: u64,

@@ -220,3 +220,16 @@ pub still_held : {before after : List ℕ} {used : ℕ} (t : Term) (node : ℕ) 
     → Same before after used → node < used
     → Holds before t node × Holds after t node
 still_held t node held same below = (held, holds_kept t node same below held)
+
+-- the same where the node was read
+pub parts_read : {t : Term} {store : List ℕ} {node m n : ℕ} {found : Node} → Holds store t node
+    → found ≡ node_in (word store node) (link store node) → found ≡ Application m n
+    → Holds store t node
+    × ((v : HeldApplication store node m n t) × (nodes t ≡ nodes v.left + nodes v.right + 1))
+unfolding nodes
+parts_read {t} {store} {node} held told is =
+    let v = held-application store node told t held is in
+    (held, (v, omega (arith, ap nodes v.same)))
+
+-- what closes the goal that the number after a right part is not 0
+pub ruleset copying = (nodes_positive, parts_read, still_held)

@@ -8,6 +8,7 @@ use nodes::Node;
 pub(crate) const FIRST: usize = 6;
 
 // The term of a node, copied to nodes that are counted from a base. The number of the next one is returned.
+#[tactic(auto, using(crate::proofs::Renewing::copying))]
 pub(crate) fn copy(store: &mut [u64], node: usize, base: usize, used: usize) -> usize
     requires { (t : Term) × Copiable t store.old node base used }
     ensures { (t : Term) → Copiable t store.old node base used

@@ -263,5 +263,5 @@ loaded-taken input loads = record {
   holds = loads.loaded input.term input.stands;
 }
 
--- WHERE NOTHING IS READ, and that a part has a node
-pub ruleset reading = (nothing_read, nodes_positive)
+-- WHERE NOTHING IS READ, that a part has a node, and that a head lies inside
+pub ruleset reading = (nothing_read, nodes_positive, variable-inside, abstraction-inside, application-inside)

@@ -133,10 +133,14 @@ module _ {w : Style} {plenty : ℕ} (s : List ℕ) {t : Term} (passes : checked 
 
 -- after a check
 module _ (n : Notation) (s : List ℕ) {r : Result Facts Refusal} (says : told r ≡ check_of most_nodes s) where
+  pub input_told : (out : List ℕ) {why : Refusal} → r ≡ Err why
+      → (told {A = ℕ} (Err why), out) ≡ print_of (notation_of n) s out
+  unfolding print_of
+  input_told out e = rw (check-refused most_nodes s says e) refl
+
   pub refuses-input : (out : List ℕ) (p : Result ℕ Refusal) {why : Refusal} → IsErrAnd p (λ y. y ≡ why) → r ≡ Err why
       → (told p, out) ≡ print_of (notation_of n) s out
-  unfolding print_of
-  refuses-input out p h e = rw (check-refused most_nodes s says e, handed_on p _ h)
+  refuses-input out p h e = ap (λ a. (a, out)) (handed_on p _ h) ∙ input_told out e
 
   module _ {f : Facts} (e : r ≡ Ok f) where
     pub few-nodes : f.nodes ≤ most_nodes
@@ -164,6 +168,9 @@ module _ (n : Notation) (s : List ℕ) {r : Result Facts Refusal} (says : told r
       printed-checked print =
           let t = check-whole most_nodes s says e in
           printed-passed s t.let_through bytes (facts_style t.same) print
+
+-- what closes the goals of `print_checked`
+pub ruleset checking = (input_told, few-nodes, checked-printable, printed-checked)
 
 -- after the walk that knows a term
 module _ (n : Notation) (s : List ℕ) {r : Option Gauge} (says : GaugesWhole n s r) {g : Gauge} (e : r ≡ Some g)

@@ -142,6 +142,7 @@ fn print_whole(style: Style, plenty: usize, s: &[u8], out: &mut [u8]) -> Result<
 }
 
 // The input's refusals, then OutputTooShort. A text has at most 20 bytes a node.
+#[tactic(auto, using(crate::proofs::Printing::checking))]
 fn print_checked(notation: Notation, s: &[u8], out: &mut [u8]) -> Result<usize, Refusal>
     ensures { (told result, out.new)
         ≡ print_of (notation_of notation) s.now out.old }

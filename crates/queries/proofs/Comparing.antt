@@ -7,8 +7,8 @@ use native.Mathlib.Omega.{arith}
 use lib.ListN.{drop}
 use Rattle.calculus.specs.Term.{Term, var, height}
 use Rattle.calculus.specs.Bounds.{most_nodes, most_height}
-use Rattle.calculus.specs.Refusal.{given}
-use Rattle.calculus.specs.Outcomes.{equality_of}
+use Rattle.calculus.specs.Refusal.{Answer, given, refused, ◌then◌}
+use Rattle.calculus.specs.Outcomes.{checked, equality_of}
 use Rattle.calculus.proofs.Coding.{AllBytes}
 use Rattle.calculus.proofs.Judged.{checked-given}
 use Rattle.calculus.specs.Queries.{same}
@@ -20,6 +20,7 @@ use Rattle.term.specs.Heads.{head_in}
 use Rattle.term.specs.Surveys.{Stands, Begins}
 use Rattle.term.specs.declared.Head.TheVariants.{Variable, Abstraction, Application}
 use Rattle.term.specs.Answers.{told, check_of}
+use Rattle.term.specs.FactsOf.{facts_of}
 use Rattle.term.specs.declared.Facts.{Facts}
 use Rattle.term.specs.declared.Refusal.{Refusal}
 use Rattle.std.specs.Prelude.{Option, Some, None, is_some, Result, Ok, Err, IsErrAnd}
@@ -146,6 +147,24 @@ whole-low s bytes says e =
     let w = check-whole most_nodes s says e in
     let (decoded, low, few) = checked-given s w.let_through in
     stands-low (decoded_stands s bytes decoded) low
+
+-- whatever the comparison finds, the first input's refusal comes first, then the second's
+pub equality_asked : (s u : List ℕ)
+    → equality_of s u ≡ (check_of most_nodes s then (λ f. check_of most_nodes u then (λ g. equality_of s u)))
+unfolding equality_of check_of
+equality_asked s u = read (checked most_nodes s) refl
+  where
+    read-second : (t : Term) (b : Answer Term)
+        → (b then (λ v. given (same t v))) ≡ (b then (λ v. given (facts_of 0 v)) then (λ g. b then (λ v. given (same t v))))
+    read-second t (given v) = refl
+    read-second t (refused why) = refl
+
+    read : (a : Answer Term) → checked most_nodes s ≡ a
+        → (a then (λ t. checked most_nodes u then (λ v. given (same t v))))
+        ≡ (a then (λ t. given (facts_of 0 t)) then (λ f. checked most_nodes u then (λ v. given (facts_of 0 v))
+        then (λ g. checked most_nodes s then (λ t. checked most_nodes u then (λ v. given (same t v))))))
+    read (given t) e = rw e (read-second t (checked most_nodes u))
+    read (refused why) e = refl
 
 module _ (s u : List ℕ) {r : Result Facts Refusal} (says : told r ≡ check_of most_nodes s) where
   pub refuses-first : (a : Result Bool Refusal) {why : Refusal} → IsErrAnd a (λ y. y ≡ why) → r ≡ Err why

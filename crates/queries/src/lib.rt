@@ -14,6 +14,7 @@ use term::{Head, Refusal};
 // The five that ask one field stay apart: public names, and a closure that picks the field is no plainer.
 
 // How many variables, abstractions and applications there are.
+#[tactic(auto, using(crate::proofs::Asking::nodes_asked))]
 pub fn nodes(s: &[u8]) -> Result<u64, Refusal>
     ensures { told result ≡ nodes_of s.now }
 {
@@ -21,6 +22,7 @@ pub fn nodes(s: &[u8]) -> Result<u64, Refusal>
 }
 
 // One for a variable, and one more than the taller part for any other node.
+#[tactic(auto, using(crate::proofs::Asking::height_asked))]
 pub fn height(s: &[u8]) -> Result<u64, Refusal>
     ensures { told result ≡ height_of s.now }
 {
@@ -28,6 +30,7 @@ pub fn height(s: &[u8]) -> Result<u64, Refusal>
 }
 
 // The most abstractions on a path.
+#[tactic(auto, using(crate::proofs::Asking::depth_asked))]
 pub fn max_depth(s: &[u8]) -> Result<u64, Refusal>
     ensures { told result ≡ max_depth_of s.now }
 {
@@ -35,6 +38,7 @@ pub fn max_depth(s: &[u8]) -> Result<u64, Refusal>
 }
 
 // The greatest of index minus depth, floored at 0.
+#[tactic(auto, using(crate::proofs::Asking::free_index_asked))]
 pub fn max_free_index(s: &[u8]) -> Result<u64, Refusal>
     ensures { told result ≡ max_free_index_of s.now }
 {
@@ -42,6 +46,7 @@ pub fn max_free_index(s: &[u8]) -> Result<u64, Refusal>
 }
 
 // Whether some index is 0 or free.
+#[tactic(auto, using(crate::proofs::Asking::free_asked))]
 pub fn has_free_variables(s: &[u8]) -> Result<bool, Refusal>
     ensures { told result ≡ has_free_variables_of s.now }
 {
@@ -81,6 +86,7 @@ fn same_at(s: &[u8], u: &[u8], at: usize, room: u64) -> Option<usize>
 }
 
 // Whether two terms are the same; the first input's refusals come before the second's.
+#[tactic(auto, using(crate::proofs::Comparing::equality_asked))]
 pub fn equality(s: &[u8], u: &[u8]) -> Result<bool, Refusal>
     ensures { told result ≡ equality_of s.now u.now }
 {

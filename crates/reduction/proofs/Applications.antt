@@ -11,6 +11,7 @@ use Rattle.term.specs.Answers.{refusal_of, told}
 use Rattle.term.specs.Surveys.{Admitted}
 use Rattle.term.specs.declared.Refusal.{Refusal}
 use Rattle.term.specs.declared.Refusal.TheVariants.{NotAbs}
+use Rattle.nodes.specs.Reading.{Taken}
 use Rattle.nodes.specs.Working.{Works}
 use Rattle.reduction.proofs.Contracting.{refuses_there}
 
@@ -31,6 +32,16 @@ module _ (cap : ℕ) (s u : List ℕ) {out store store' : List ℕ} (long : leng
         → Works (stored (applied cap s u then coded) out) store (told {A = ℕ} (Err NotAbs)) out store'
     unfolding applied
     no_body second is e = refuses_there NotAbs out long (rw (first.passes, second.passes, is, e))
+
+-- AN INPUT'S REFUSAL, as the check finds it for `work`: of the answer and the output
+module _ (cap : ℕ) (s u out : List ℕ) (why : Refusal) where
+  pub first_told : checked cap s ≡ refused (refusal_of why)
+      → (told {A = ℕ} (Err why), out) ≡ stored (applied cap s u then coded) out
+  first_told e = (first-refused cap s u {store = out} refl why e).stores
+
+  pub second_told : {top : ℕ} {mid : List ℕ} → Taken cap s 0 top mid → checked cap u ≡ refused (refusal_of why)
+      → (told {A = ℕ} (Err why), out) ≡ stored (applied cap s u then coded) out
+  second_told one e = (second-refused cap s u {store = out} refl one.input why e).stores
 
 -- 1 AND 2, and the work after them
 pub apply_lent : (cap : ℕ) (s u out room : List ℕ)

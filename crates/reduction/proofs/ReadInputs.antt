@@ -26,7 +26,7 @@ use Rattle.term.specs.Answers.{told}
 use Rattle.term.specs.declared.Refusal.{Refusal}
 use Rattle.nodes.specs.Working.{Works}
 use Rattle.reduction.specs.Applying.{Contractible, Contracts}
-use Rattle.reduction.proofs.Applications.{no_body}
+use Rattle.reduction.proofs.Applications.{no_body, first_told, second_told}
 
 -- THE FIRST INPUT leaves room for the second
 module _ {cap top : ℕ} {s out store mid : List ℕ} (lent : Lent cap out store) (long : length mid ≡ length store)
@@ -128,3 +128,33 @@ module _ {cap top used : ℕ} {s u out store end : List ℕ} (both : Both cap s 
           let works = contracts.contracts held.body both.second.term held.held both.argument in
           rw (both.first.passes, both.second.passes, held.same)
           (record { stores = works.stores; as_long = works.as_long ∙ both.long })
+
+-- AN INPUT takes one node at least, and no more than the cap
+pub takes : {cap used made : ℕ} {s room : List ℕ} → Taken cap s used made room → (used < made) × (made ≤ used + cap)
+takes {s = s} taken =
+    let (_, _, few) = checked-given s taken.input.passes in
+    let positive = nodes_positive taken.input.term in
+    let count = taken.count in
+    (omega arith, omega arith)
+
+-- THE SAME OF BOTH, as `work` has loaded them
+module _ {cap top used : ℕ} {s u out store mid end : List ℕ} (lent : Lent cap out store) (kept : Same store mid 0)
+    (one : Taken cap s 0 top mid) (same : Same mid end top) (two : Taken cap u top used end) {found : Node}
+    (seen : found ≡ node_in (word end (top - 1)) (link end (top - 1))) where
+  loaded : Both cap s u out store top used end
+  loaded = both_read lent kept.as_long one same two
+
+  pub loaded-no-abstraction : ((n : ℕ) → found ≡ Abstraction n → ⊥)
+      → Works (stored (applied cap s u then coded) out) store (told {A = ℕ} (Err NotAbs)) out end
+  loaded-no-abstraction other = at_no-abstraction loaded seen other
+
+  module _ {n : ℕ} (is : found ≡ Abstraction n) where
+    pub loaded_asks : Contractible cap end used n (used - 1) out
+    loaded_asks = linked_asks loaded seen is
+
+    pub at_loaded : {r : Result ℕ Refusal} {store' after : List ℕ} → Contracts cap end n (used - 1) out r store' after
+        → Works (stored (applied cap s u then coded) out) store (told r) after store'
+    at_loaded contracts = at_linked loaded seen is contracts
+
+-- what closes the goals of `work` but those of the contraction
+pub ruleset reading = (first_told, second_told, takes, second_asks, loaded-no-abstraction)

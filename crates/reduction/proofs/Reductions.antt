@@ -1,6 +1,6 @@
 -- What `reduce` answers: the input's refusals, how the steps end, and 1 and 2 before.
 use Prim.Native.Nat.{ℕ}
-use mathlib.Core.Path.{◌≡◌, ◌∙◌}
+use mathlib.Core.Path.{◌≡◌, refl, ◌∙◌}
 use mathlib.Core.Bool.{true, false}
 use mathlib.Core.List.{List}
 use native.Mathlib.Omega.{arith}
@@ -33,16 +33,12 @@ use Rattle.engine.specs.declared.Reached.{Reached}
 use Rattle.std.specs.Prelude.{Result, Ok, Err}
 
 -- THE STEPS of a term that is the last of so many nodes
-module _ {cap used : ℕ} {out store : List ℕ} (lent : Lent cap out store) {t : Term} (asked : Steppable t cap store used)
-    {o : Order} {limit : ℕ} {reached : Result Reached Stopped} {end : List ℕ}
-    (steps : (t : Term) → Steppable t cap store used → Steps o t limit cap store reached end) where
-  stepped : Steps o t limit cap store reached end
-  stepped = steps t asked
-
+module _ {cap : ℕ} {store end : List ℕ} {t : Term} {o : Order} {limit : ℕ} {reached : Result Reached Stopped}
+    (steps : Steps o t limit cap store reached end) where
   -- a term that is reached is saved
-  module _ {r : Reached} (is : reached ≡ Ok r) where
+  module _ {out : List ℕ} (lent : Lent cap out store) {r : Reached} (is : reached ≡ Ok r) where
     come : (u : Term) × Ends (judge cap) o limit t (ended r.end r.steps u) × Found u cap r.node end
-    come = read (rw is at stepped.reaches)
+    come = read (rw is at steps.reaches)
       where
         read : Reaches o t limit cap end (Ok r)
             → (u : Term) × Ends (judge cap) o limit t (ended r.end r.steps u) × Found u cap r.node end
@@ -67,19 +63,26 @@ module _ {cap used : ℕ} {out store : List ℕ} (lent : Lent cap out store) {t 
         record {
           stores = rw (ends-run (judge cap) o ends)
               (run-stored cap u found.few lent.output (saves.saved u found.holds) r.end r.steps);
-          as_long = stepped.as_long;
+          as_long = steps.as_long;
         }
 
-  pub at_refused : {r : Stopped} → reached ≡ Err r
-      → Works (stored_run (calculus.run (judge cap) o limit t) out) store (run_told (Err r)) out end
+  pub refused_told : (out : List ℕ) {r : Stopped} → reached ≡ Err r
+      → (run_told (Err r), out) ≡ stored_run (calculus.run (judge cap) o limit t) out
   unfolding run_told
-  at_refused {r} is = record { stores = rw (ends-run (judge cap) o refusal); as_long = stepped.as_long }
+  refused_told out {r} is = rw (ends-run (judge cap) o refusal) refl
     where
       refusal : Ends (judge cap) o limit t (refused_after r.steps (refusal_of r.why))
-      refusal = read (rw is at stepped.reaches)
+      refusal = read (rw is at steps.reaches)
         where
           read : Reaches o t limit cap end (Err r) → Ends (judge cap) o limit t (refused_after r.steps (refusal_of r.why))
           read (refuses ends) = ends
+
+  pub at_refused : {out : List ℕ} {r : Stopped} → reached ≡ Err r
+      → Works (stored_run (calculus.run (judge cap) o limit t) out) store (run_told (Err r)) out end
+  at_refused {out} is = record { stores = refused_told out is; as_long = steps.as_long }
+
+-- what closes the goals of `step_on`
+pub ruleset stepping = (save_asks, at_end, refused_told)
 
 -- THE INPUT is the last node, and its steps are those of the whole call
 module _ {cap used : ℕ} {s out store mid : List ℕ} (lent : Lent cap out store) (long : length mid ≡ length store)

@@ -52,6 +52,7 @@ fn contract(
 // All that comes after OutsideBounds and TooLittleRoom: the abstraction's refusals, the argument's, NotAbs, then the
 // contraction.
 // cap, out and store stay apart, here and in `reducing`: each is passed on as it is lent, and a struct is no plainer
+#[tactic(auto, using(crate::proofs::ReadInputs::reading))]
 fn work(cap: usize, s: &[u8], u: &[u8], out: &mut [u8], store: &mut [u64]) -> Result<usize, Refusal>
     requires { Lent cap out.old store.old }
     ensures { Works (stored (applied cap s.now u.now then coded) out.old)

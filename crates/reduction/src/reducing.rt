@@ -19,6 +19,7 @@ use orders::Order;
 use term::Refusal;
 
 // The steps of the term that the last of so many nodes is, and the bytes of the term that they reach.
+#[tactic(auto, using(crate::proofs::Reductions::stepping))]
 fn step_on(
     cap: usize,
     order: Order,

@@ -70,10 +70,6 @@ overflow_add-base-in-Application t c = let (_, _, low, _) = parts-copied t (goal
 pub overflow_sub-middle : goal.overflow_sub-middle
 overflow_sub-middle t c = (parts-copied t (goal.at.overflow_sub-middle t c).After-copy-top-in-Application).0
 
-pub overflow_sub-top-in-Application : goal.overflow_sub-top-in-Application
-overflow_sub-top-in-Application t c =
-    omega (arith, parts-copied t (goal.at.overflow_sub-top-in-Application t c).After-copy-top-in-Application)
-
 pub pair-requires : goal.pair-requires
 pair-requires t c =
     let (_, more, low, _) = parts-copied t (goal.at.pair-requires t c).After-copy-top-in-Application in (omega arith, omega arith)
